@@ -1,21 +1,25 @@
 -- The clause list: clauses one after another, each ended by 0, and what a clause is as a set of literals.
 -- Assumes nothing.
-use mathlib.Core.List.{List, [], _∷_, List·Memᴰ}
 use mathlib.Core.Bool.{cond}
+use mathlib.Core.List.{List, [], _∷_, map, List·Memᴰ}
 use Prim.Native.Nat.{ℕ}
 use lib.Dec.{eqb}
 use lib.IntN.{ℤ}
 use Rattle.clauses.specs.Code.{codeOf, negate}
 
--- the clauses with one more code in front: 0 ends a clause, any other code belongs to the first one
+-- the clauses with one more literal in front of the first one
 unfoldable pub onto : ℕ → List (List ℕ) → List (List ℕ)
 onto x [] = (x ∷ []) ∷ []
 onto x (c ∷ cs) = (x ∷ c) ∷ cs
 
--- 'clauses one after another, each ended by 0', as lists of codes
+-- 'clauses one after another, each ended by 0', in a row of codes
+unfoldable pub clausesIn : List ℕ → List (List ℕ)
+clausesIn [] = []
+clausesIn (x ∷ codes) = cond (eqb x 0) ([] ∷ clausesIn codes) (onto x (clausesIn codes))
+
+-- .. in a row of entries
 unfoldable pub clausesOf : List ℤ → List (List ℕ)
-clausesOf [] = []
-clausesOf (z ∷ row) = cond (eqb (codeOf z) 0) ([] ∷ clausesOf row) (onto (codeOf z) (clausesOf row))
+clausesOf row = clausesIn (map codeOf row)
 
 -- x is one of the clause's literals
 abbrev pub Mem : ℕ → List ℕ → Type 0

@@ -1,0 +1,76 @@
+-- What an answer counts lies within what was lent.
+-- Assumes nothing.
+use mathlib.Core.Path.{_≡_}
+use mathlib.Core.List.{List, [], _∷_}
+use Prim.Native.Nat.{ℕ, _≤_}
+use native.Mathlib.Omega.{arith}
+use lib.IntN.{ℤ}
+use lib.ListN.{length, drop, length-append}
+use Rattle.clauses.specs.Printing as Printing
+use Rattle.clauses.specs.Printing.{listText, printing, written}
+use Rattle.clauses.specs.Reading as Reading
+use Rattle.clauses.specs.Reading.{Sizes, Heading, lines, heading, wordsOf, Body, body, readNumbers, readBody, readHeading, reading, accepted}
+use Rattle.clauses.specs.Refusal.{textTooLong}
+use Rattle.clauses.specs.declared.refusal.Refusal.{Refusal}
+use Rattle.clauses.specs.declared.refusal.Refusal.the-variants.{Header, Word}
+use Rattle.clauses.specs.declared.printing.Printing.the-variants.{Written}
+use Rattle.clauses.specs.declared.reading.ListSize.{ListSize}
+use Rattle.clauses.specs.declared.reading.Reading.the-variants.{Accepted}
+use Rattle.clauses.proofs.Deciding.{decide-either}
+
+-- Reading
+
+EntriesWithin : Reading.Outcome → Type 0
+EntriesWithin o = (s : ListSize) → o .result ≡ Accepted s → s .entries ≤ length (o .row)
+
+module _ (row : List ℤ) where
+  refused-within : (r : Refusal) → EntriesWithin (Reading.refused row r)
+  unfolding EntriesWithin Reading.refused
+  refused-within r s e = let z : _≡_ {A = ℕ} 0 1 = cc in absurd (omega arith)
+
+  accepted-within : (s : Sizes) (numbers : List ℤ) → EntriesWithin (accepted row s numbers)
+  unfolding EntriesWithin accepted
+  accepted-within s numbers t e =
+      let same : length numbers ≡ t .entries = cc in
+      omega (arith, same, length-append numbers (drop (length numbers) row))
+
+  body-within : (s : Sizes) (b : Body) → EntriesWithin (readBody row s b)
+  unfolding readBody readNumbers
+  body-within s (Body.malformed p) = refused-within (Word p)
+  body-within s (Body.entries numbers) =
+      decide-either (Reading.refused row) (accepted row s numbers) EntriesWithin refused-within (accepted-within s numbers) _
+
+  heading-within : (h : Heading) → EntriesWithin (readHeading row h)
+  unfolding readHeading
+  heading-within (Heading.malformed p) = refused-within (Header p)
+  heading-within (Heading.sized s ls) = body-within s (body (wordsOf ls))
+
+  -- the entries that reading counts lie within the row
+  pub read-within : (text : List ℕ) (s : ListSize) → reading text row .result ≡ Accepted s → s .entries ≤ length (reading text row .row)
+  unfolding reading EntriesWithin
+  read-within text =
+      decide-either (Reading.refused row) (readHeading row (heading (length text) (lines 0 text))) EntriesWithin refused-within
+      (heading-within (heading (length text) (lines 0 text))) (textTooLong text ∷ [])
+
+-- Printing
+
+module _ (buffer : List ℕ) (n : ℕ) where
+  BytesWithin : Printing.Outcome → Type 0
+  BytesWithin o = o .result ≡ Written n → n ≤ length (o .buffer)
+
+  refuses-within : (r : Refusal) → BytesWithin (Printing.refused buffer r)
+  unfolding BytesWithin Printing.refused
+  refuses-within r e = let z : _≡_ {A = ℕ} 0 1 = cc in absurd (omega arith)
+
+  written-within : (text : List ℕ) → BytesWithin (written buffer text)
+  unfolding BytesWithin written
+  written-within text e =
+      let same : length text ≡ n = cc in
+      omega (arith, same, length-append text (drop (length text) buffer))
+
+  -- the bytes that printing counts lie within the buffer
+  pub print-within : (v c : ℕ) (row : List ℤ) → printing v c row buffer .result ≡ Written n → n ≤ length (printing v c row buffer .buffer)
+  unfolding printing BytesWithin
+  print-within v c row =
+      decide-either (Printing.refused buffer) (written buffer (listText v c row)) BytesWithin refuses-within
+      (written-within (listText v c row)) _

@@ -1,0 +1,52 @@
+-- Laws of tests that are checked in order.
+-- Assumes nothing.
+use mathlib.Core.Path.{_≡_, refl}
+use mathlib.Core.Bool.{true, false}
+use mathlib.Core.List.{List, [], _∷_, _++_, List·Memᴰ, List·Memᴰ·tail}
+use borrow.Table.Steps.{cases}
+use Rattle.clauses.specs.Refusal.{Test, decide}
+use Rattle.clauses.specs.declared.refusal.Refusal.{Refusal}
+use Rattle.clauses.proofs.Lists.{in-first}
+
+-- no test holds
+abbrev pub NoneHolds : List Test → Type 0
+NoneHolds [] = Unit {0}
+NoneHolds (t ∷ ts) = (t .holds ≡ false) × NoneHolds ts
+
+pub none-holds-append : (ts us : List Test) → NoneHolds (ts ++ us) → NoneHolds ts × NoneHolds us
+none-holds-append [] us n = (tt, n)
+none-holds-append (t ∷ ts) us n =
+    let rest : NoneHolds ts × NoneHolds us = none-holds-append ts us (n .1) in
+    ((n .0, rest .0), rest .1)
+
+module _ {A : Type 0} (refused : Refusal → A) (accepted : A) where
+  pub decide-accepted : (ts : List Test) → NoneHolds ts → decide refused accepted ts ≡ accepted
+  unfolding decide
+  decide-accepted [] n = refl
+  decide-accepted (t ∷ ts) n = rw (n .0) (decide-accepted ts (n .1))
+
+  pub decide-first : (t : Test) (ts : List Test) → t .holds ≡ true → decide refused accepted (t ∷ ts) ≡ refused (t .refusal)
+  unfolding decide
+  decide-first t ts e = rw e
+
+  -- an answer with a property that no refusal has: no test holds
+  pub decide-none-holds : (P : A → Type 0) → ((r : Refusal) → P (refused r) → ⊥) → (ts : List Test) → P (decide refused accepted ts) → NoneHolds ts
+  unfolding decide
+  decide-none-holds P never [] p = tt
+  decide-none-holds P never (t ∷ ts) p =
+      cases (t .holds) (λ e. absurd (never (t .refusal) (rw e at p))) (λ e. (e, decide-none-holds P never ts (rw e at p)))
+
+  -- a property of every refusal and of the acceptance is one of the answer
+  pub decide-either : (P : A → Type 0) → ((r : Refusal) → P (refused r)) → P accepted → (ts : List Test) → P (decide refused accepted ts)
+  unfolding decide
+  decide-either P r a [] = a
+  decide-either P r a (t ∷ ts) =
+      cases (t .holds) (λ e. rw e (r (t .refusal))) (λ e. rw e (decide-either P r a ts))
+
+  -- a property of every test's refusal and, where no test holds, of the rest is one of the outcome
+  pub decide-has : (P : A → Type 0) (ts : List Test) → ((t : Test) → List·Memᴰ t ts → P (refused (t .refusal))) → (NoneHolds ts → P accepted)
+      → P (decide refused accepted ts)
+  unfolding decide
+  decide-has P [] f g = g tt
+  decide-has P (t ∷ ts) f g =
+      cases (t .holds) (λ e. rw e (f t in-first)) (λ e. rw e (decide-has P ts (λ u k. f u (List·Memᴰ·tail k)) (λ n. g (e, n))))

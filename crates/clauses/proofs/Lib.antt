@@ -1,0 +1,37 @@
+-- Clauses as sets, and their images under a renaming
+pub mod Lists
+pub mod Distinct
+pub mod Codes
+pub mod Clauses
+pub mod Fitting
+pub mod Picks
+pub mod Choices
+pub mod Renaming
+pub mod Extended
+-- Tests in their order, and the tally that decides them
+pub mod Deciding
+pub mod Signed
+pub mod Tallies
+pub mod Tests
+-- Parts of a text
+pub mod Splitting
+pub mod Runs
+pub mod LinesAndWords
+pub mod Digits
+pub mod Words
+-- Reading
+pub mod Headers
+pub mod Bodies
+pub mod Scans
+pub mod Fills
+pub mod ReadingTests
+-- Printing
+pub mod Decimals
+pub mod Writes
+pub mod Texts
+pub mod Prints
+-- The round trip, and what an answer counts
+pub mod Numerals
+pub mod PrintedText
+pub mod RoundTrip
+pub mod Answers

@@ -1,0 +1,123 @@
+-- The tests of reading: of a body by the tally of its numbers, and of a text by its header.
+-- Assumes nothing.
+use mathlib.Core.Path.{_≡_, refl, sym, _∙_, ap}
+use mathlib.Core.List.{List, [], _∷_, _++_, map}
+use mathlib.Core.Option.{Option, none, some}
+use Prim.Native.Nat.{ℕ, _≤_, _<_}
+use native.Mathlib.Omega.{arith}
+use borrow.Author.Tests.{lt-ltb, le-ltb}
+use lib.IntN.{ℤ, natAbs}
+use lib.ListN.{length, drop}
+use Rattle.clauses.specs.Bytes.{Stretch}
+use Rattle.clauses.specs.Limit.{maxText}
+use Rattle.clauses.specs.Number.{number}
+use Rattle.clauses.specs.Refusal.{decide, tooManyNets, tooManyClauses, tooManyEntries, entryTooLarge, notEnded, clauseCount}
+use Rattle.clauses.specs.Tally.{start, step, tallied, tallyOf}
+use Rattle.clauses.specs.Check.{checkSizes, checkEntries}
+use Rattle.clauses.specs.Reading.{Sizes, Body, prepend, body, Outcome, refused, accepted, readNumbers, readBody, readHeading, reading}
+use Rattle.clauses.specs.Scanning.{wordsFrom, Found, scanned, numbersOf}
+use Rattle.clauses.specs.declared.refusal.Refusal.{Refusal}
+use Rattle.clauses.specs.declared.refusal.Refusal.the-variants.{TextTooLong, Header, Word, RowTooShort}
+use Rattle.clauses.specs.declared.header.Header.the-variants as H
+use Rattle.clauses.specs.declared.tally.Tally.{Tally}
+use Rattle.clauses.specs.declared.checks.Check.the-variants as K
+use Rattle.clauses.specs.declared.body.Scan.{Scan}
+use Rattle.clauses.specs.declared.body.Scan.the-variants as C
+use Rattle.clauses.specs.declared.reading.Reading.the-variants as R
+use Rattle.clauses.proofs.Tallies.{tally-all}
+use Rattle.clauses.proofs.Tests.{sizes-passed, sizes-refused, entries-passed, entries-refused}
+
+-- what the scan of a body gives
+scanOf : ℕ → Tally → Body → Scan
+scanOf v t (Body.entries numbers) = C.Numbers (tallied v t (map natAbs numbers))
+scanOf v t (Body.malformed p) = C.Malformed p
+
+scan-prepend : (v : ℕ) (t : Tally) (z : ℤ) (b : Body) → scanOf v (step v t (natAbs z)) b ≡ scanOf v t (prepend z b)
+unfolding scanOf prepend tallied
+scan-prepend v t z (Body.entries numbers) = refl
+scan-prepend v t z (Body.malformed p) = refl
+
+scanned-body : (v : ℕ) (t : Tally) (ws : List Stretch) → scanned v t ws ≡ scanOf v t (body ws)
+unfolding scanned body scanOf tallied
+scanned-body v t [] = refl
+scanned-body v t (w ∷ ws) = go (number (w .bytes)) refl (λ z. scanned-body v (step v t (natAbs z)) ws)
+  where
+    go : (o : Option ℤ) → number (w .bytes) ≡ o → ((z : ℤ) → scanned v (step v t (natAbs z)) ws ≡ scanOf v (step v t (natAbs z)) (body ws)) → scanned v t (w ∷ ws) ≡ scanOf v t (body (w ∷ ws))
+    go none e ih = rw (scanned, body, e)
+    go (some z) e ih = rw (scanned, body, e) (ih z ∙ scan-prepend v t z (body ws))
+
+module _ (v : ℕ) (ws : List Stretch) where
+  pub scanned-malformed : (p : ℕ) → scanned v start ws ≡ C.Malformed p → body ws ≡ Body.malformed p
+  unfolding scanOf
+  scanned-malformed p e = go (body ws) (sym (scanned-body v start ws) ∙ e)
+    where
+      go : (b : Body) → scanOf v start b ≡ C.Malformed p → b ≡ Body.malformed p
+      go (Body.entries numbers) h = let z : _≡_ {A = ℕ} 0 1 = cc in absurd (omega arith)
+      go (Body.malformed q) h = let same : q ≡ p = cc in ap Body.malformed same
+
+  pub scanned-numbers : (t : Tally) → scanned v start ws ≡ C.Numbers t → (body ws ≡ Body.entries (numbersOf (body ws))) × (t ≡ tallyOf v (numbersOf (body ws)))
+  unfolding scanOf numbersOf
+  scanned-numbers t e = go (body ws) (sym (scanned-body v start ws) ∙ e)
+    where
+      go : (b : Body) → scanOf v start b ≡ C.Numbers t → (b ≡ Body.entries (numbersOf b)) × (t ≡ tallyOf v (numbersOf b))
+      go (Body.entries numbers) h = let same : tallied v start (map natAbs numbers) ≡ t = cc in (refl, sym same ∙ tally-all v numbers)
+      go (Body.malformed q) h = let z : _≡_ {A = ℕ} 0 1 = cc in absurd (omega arith)
+
+module _ (row : List ℤ) (s : Sizes) (numbers : List ℤ) where
+  pub numbers-short : length row < length numbers → readNumbers row s numbers ≡ refused row RowTooShort
+  unfolding readNumbers decide
+  numbers-short h = rw (lt-ltb _ _ h)
+
+  module _ (h : length numbers ≤ length row) where
+    behind-room : readNumbers row s numbers
+        ≡ decide (refused row) (accepted row s numbers)
+        (tooManyNets (s .nets) ∷ tooManyClauses (s .clauses) ∷ tooManyEntries numbers ∷ entryTooLarge (s .nets) numbers ∷ notEnded numbers ∷ clauseCount (s .clauses) numbers ∷ [])
+    unfolding readNumbers decide
+    behind-room = rw (le-ltb _ _ h)
+
+    pub numbers-sizes : (r : Refusal) → checkSizes (s .nets) (s .clauses) (length numbers) ≡ K.Refused r → readNumbers row s numbers ≡ refused row r
+    numbers-sizes r e = behind-room ∙ sizes-refused (refused row) (accepted row s numbers) (s .nets) (s .clauses) numbers (entryTooLarge (s .nets) numbers ∷ notEnded numbers ∷ clauseCount (s .clauses) numbers ∷ []) r e
+
+    module _ (e : checkSizes (s .nets) (s .clauses) (length numbers) ≡ K.Passed) where
+      behind-sizes : readNumbers row s numbers ≡ decide (refused row) (accepted row s numbers) (entryTooLarge (s .nets) numbers ∷ notEnded numbers ∷ clauseCount (s .clauses) numbers ∷ [])
+      behind-sizes = behind-room ∙ sizes-passed (refused row) (accepted row s numbers) (s .nets) (s .clauses) numbers (entryTooLarge (s .nets) numbers ∷ notEnded numbers ∷ clauseCount (s .clauses) numbers ∷ []) e
+
+      pub numbers-entries : (r : Refusal) → checkEntries (s .clauses) (tallyOf (s .nets) numbers) ≡ K.Refused r → readNumbers row s numbers ≡ refused row r
+      numbers-entries r k = behind-sizes ∙ entries-refused (refused row) (accepted row s numbers) (s .nets) (s .clauses) numbers [] r k
+
+      pub numbers-accepted : checkEntries (s .clauses) (tallyOf (s .nets) numbers) ≡ K.Passed → readNumbers row s numbers ≡ accepted row s numbers
+      unfolding decide
+      numbers-accepted k = behind-sizes ∙ entries-passed (refused row) (accepted row s numbers) (s .nets) (s .clauses) numbers [] k
+
+-- what an outcome holds
+pub refused-is : {o : Outcome} (row : List ℤ) (r : Refusal) → o ≡ refused row r → (R.Refused r ≡ o .result) × (row ≡ o .row)
+unfolding refused
+refused-is row r e = (sym (ap (λ (o : Outcome). o .result) e), sym (ap (λ (o : Outcome). o .row) e))
+
+pub accepted-is : {o : Outcome} (row : List ℤ) (s : Sizes) (numbers : List ℤ) → o ≡ accepted row s numbers
+    → (R.Accepted (record { nets = s .nets; clauses = s .clauses; entries = length numbers }) ≡ o .result) × (numbers ++ drop (length numbers) row ≡ o .row)
+unfolding accepted
+accepted-is row s numbers e = (sym (ap (λ (o : Outcome). o .result) e), sym (ap (λ (o : Outcome). o .row) e))
+
+module _ (row : List ℤ) (s : Sizes) (b : Body) where
+  pub body-malformed : (p : ℕ) → b ≡ Body.malformed p → readBody row s b ≡ refused row (Word p)
+  unfolding readBody
+  body-malformed p e = rw e
+
+  pub body-numbers : (numbers : List ℤ) → b ≡ Body.entries numbers → readBody row s b ≡ readNumbers row s numbers
+  unfolding readBody
+  body-numbers numbers e = rw e
+
+module _ (text : List ℕ) (row : List ℤ) where
+  pub text-long : maxText < length text → reading text row ≡ refused row TextTooLong
+  unfolding reading decide
+  text-long h = rw (lt-ltb _ _ h)
+
+  module _ (h : length text ≤ maxText) where
+    pub header-malformed : (p : ℕ) → Found text (H.Malformed p) → reading text row ≡ refused row (Header p)
+    unfolding reading readHeading decide
+    header-malformed p e = rw (le-ltb _ _ h, e)
+
+    pub header-sized : (v c q : ℕ) → Found text (H.Sized v c q) → reading text row ≡ readBody row (record { nets = v; clauses = c }) (body (wordsFrom text q))
+    unfolding reading readHeading decide
+    header-sized v c q f = rw (le-ltb _ _ h, f .1, f .2)

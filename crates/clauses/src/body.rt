@@ -1,0 +1,90 @@
+// The body of a text: the words of the lines that are not comments.
+
+ghost use mathlib.Core.Path.{_≡_};
+ghost use mathlib.Core.List.{_++_};
+ghost use Prim.Native.Nat.{_<_, _≤_};
+ghost use lib.ListN.{length, drop};
+ghost use Rattle.clauses.specs.Scanning.{startsLine, NextWord, scannedFrom, AllNumbers, numbersFrom};
+use crate::entry::put_entry;
+use crate::number::Number;
+use crate::number::read_number;
+use crate::tally::Tally;
+use crate::text::Class;
+use crate::text::Cursor;
+use crate::text::is_blank;
+use crate::text::run_end;
+
+// The tally of a body's numbers, or the place of the first word that is not a number.
+pub enum Scan {
+    Numbers(Tally),
+    Malformed(usize),
+}
+
+// Whether a line starts at a place.
+fn starts_line(text: &[u8], at: usize) -> bool
+    requires { ⌜ at ≤ length (now text) ⌝ }
+    ensures { λ r. ⌜ r ≡ startsLine (now (text .entry)) at ⌝ }
+{
+    if at == 0 {
+        return true;
+    }
+    text[at - 1] == 10
+}
+
+// The place of the next word from a place on, or the text's end.
+fn next_word(text: &[u8], at: usize) -> usize
+    requires { ⌜ at ≤ length (now text) ⌝ }
+    ensures { λ r. ⌜ NextWord (now (text .entry)) at r ⌝ }
+{
+    let mut i = at;
+    while i < text.len() {
+        let b = text[i];
+        if is_blank(b) {
+            i += 1;
+        } else {
+            if b != 99 {
+                return i;
+            }
+            if !starts_line(text, i) {
+                return i;
+            }
+            i = run_end(text, i, Class::Inline);
+        }
+    }
+    i
+}
+
+// The tally of the numbers from a place on, for nets up to v.
+pub fn tally_numbers(text: &[u8], from: usize, v: u32) -> Scan
+    requires { ⌜ from ≤ length (now text) ⌝ }
+    ensures { λ r. ⌜ r ≡ scannedFrom (now (text .entry)) from v ⌝ }
+{
+    let mut t = Tally::start();
+    let mut at = next_word(text, from);
+    while at < text.len() {
+        let Number::Value(_, m, next) = read_number(text, Cursor { at: at }) else {
+            return Scan::Malformed(at);
+        };
+        t = t.add(v, m);
+        at = next_word(text, next.at);
+    }
+    Scan::Numbers(t)
+}
+
+// Writes the numbers from a place on at the start of a row.
+pub fn write_numbers(text: &[u8], from: usize, row: &mut [i32])
+    requires { ⌜ from ≤ length (now text) ⌝ }
+    requires { ⌜ AllNumbers (now text) from × (length (numbersFrom (now text) from) ≤ length (now row)) ⌝ }
+    ensures { λ _. ⌜ now (row .exit) ≡ numbersFrom (now (text .entry)) from ++ drop (length (numbersFrom (now (text .entry)) from)) (now (row .entry)) ⌝ }
+{
+    let mut i = 0;
+    let mut at = next_word(text, from);
+    while at < text.len() {
+        let Number::Value(minus, m, next) = read_number(text, Cursor { at: at }) else {
+            return;
+        };
+        put_entry(row, i, minus, m);
+        i += 1;
+        at = next_word(text, next.at);
+    }
+}

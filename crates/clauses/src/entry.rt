@@ -1,0 +1,76 @@
+// The signed entries of a literal row: all else speaks of magnitudes and signs.
+
+ghost use mathlib.Core.Path.{_≡_};
+ghost use mathlib.Core.Bool.{not};
+ghost use mathlib.Core.List.{map};
+ghost use Prim.Native.Nat.{_<_, _≤_};
+ghost use lib.IntN.{natAbs, pos};
+ghost use lib.Signed.{nonNeg};
+ghost use lib.ListN.{length, getD, set};
+ghost use Rattle.clauses.specs.Code.{codeOf};
+ghost use Rattle.clauses.specs.Limit.{maxNets};
+ghost use Rattle.clauses.specs.Number.{signed};
+
+// The magnitude of any entry, -2,147,483,648 too.
+fn magnitude(x: i32) -> u32
+    ensures { λ r. ⌜ r ≡ natAbs x ⌝ }
+{
+    if 0 <= x {
+        x as u32
+    } else {
+        ((-1 - x) as u32) + 1
+    }
+}
+
+fn is_negative(x: i32) -> bool
+    ensures { λ r. ⌜ r ≡ not (nonNeg x) ⌝ }
+{
+    x < 0
+}
+
+// The entry of a sign and a magnitude of at most nine digits.
+fn entry_of(minus: bool, m: u32) -> i32
+    requires { ⌜ m < 1000000000 ⌝ }
+    ensures { λ r. ⌜ r ≡ signed minus m ⌝ }
+{
+    if minus { 0 - (m as i32) } else { m as i32 }
+}
+
+// The magnitude of a row's entry.
+pub fn magnitude_at(row: &[i32], i: usize) -> u32
+    requires { ⌜ i < length (now row) ⌝ }
+    ensures { λ r. ⌜ r ≡ natAbs (getD (now (row .entry)) i (pos 0)) ⌝ }
+{
+    magnitude(row[i])
+}
+
+// Whether a row's entry has a minus.
+pub fn is_negative_at(row: &[i32], i: usize) -> bool
+    requires { ⌜ i < length (now row) ⌝ }
+    ensures { λ r. ⌜ r ≡ not (nonNeg (getD (now (row .entry)) i (pos 0))) ⌝ }
+{
+    is_negative(row[i])
+}
+
+// The literal code of a row's entry, of a net up to the limit.
+pub fn code_at(row: &[i32], i: usize) -> u32
+    requires { ⌜ i < length (now row) ⌝ }
+    requires { ⌜ natAbs (getD (now row) i (pos 0)) ≤ maxNets ⌝ }
+    ensures { λ r. ⌜ r ≡ getD (map codeOf (now (row .entry))) i 0 ⌝ }
+{
+    let m = magnitude_at(row, i);
+    if is_negative_at(row, i) {
+        2 * m + 1
+    } else {
+        2 * m
+    }
+}
+
+// Stores an entry, given by its sign and a magnitude of at most nine digits.
+pub fn put_entry(row: &mut [i32], i: usize, minus: bool, m: u32)
+    requires { ⌜ i < length (now row) ⌝ }
+    requires { ⌜ m < 1000000000 ⌝ }
+    ensures { λ _. ⌜ now (row .exit) ≡ set (now (row .entry)) i (signed minus m) ⌝ }
+{
+    row[i] = entry_of(minus, m);
+}

@@ -1,0 +1,163 @@
+// DIMACS text out.
+
+ghost use mathlib.Core.Path.{_≡_};
+ghost use Prim.Native.Nat.{_+_, _<_, _≤_};
+ghost use lib.IntN.{pos};
+ghost use lib.ListN.{length, getD};
+ghost use Rattle.clauses.specs.Limit.{maxEntries};
+ghost use Rattle.clauses.specs.Number.{signedDecimal};
+ghost use Rattle.clauses.specs.Writing.{Wrote};
+ghost use Rattle.clauses.specs.Printing.{headerText, entryText, rowText, listText, printing};
+use crate::checks::Check;
+use crate::checks::check_entries;
+use crate::checks::check_sizes;
+use crate::entry::is_negative_at;
+use crate::entry::magnitude_at;
+use crate::limits::MAX_TEXT;
+use crate::refusal::Refusal;
+use crate::tally::tally_row;
+use crate::writing::decimal_length;
+use crate::writing::put;
+use crate::writing::put_bytes;
+use crate::writing::put_decimal;
+use crate::writing::put_word;
+
+pub enum Printing {
+    Written(usize),
+    Refused(Refusal),
+}
+
+// The length of an entry in decimal.
+fn number_length(row: &[i32], i: usize) -> usize
+    requires { ⌜ i < length (now row) ⌝ }
+    ensures { λ r. ⌜ r ≡ length (signedDecimal (getD (now (row .entry)) i (pos 0))) ⌝ }
+{
+    let digits = decimal_length(magnitude_at(row, i));
+    if is_negative_at(row, i) {
+        return digits + 1;
+    }
+    digits
+}
+
+// The length of an entry's text.
+fn entry_length(row: &[i32], i: usize) -> usize
+    requires { ⌜ i < length (now row) ⌝ }
+    ensures { λ r. ⌜ r ≡ length (entryText (getD (now (row .entry)) i (pos 0))) ⌝ }
+{
+    if magnitude_at(row, i) == 0 {
+        return 2;
+    }
+    number_length(row, i) + 1
+}
+
+// The length of a row's text.
+fn row_length(row: &[i32]) -> usize
+    requires { ⌜ length (now row) ≤ maxEntries ⌝ }
+    ensures { λ r. ⌜ r ≡ length (rowText (now (row .entry))) ⌝ }
+{
+    let mut n = 0;
+    let mut i = 0;
+    while i < row.len() {
+        n += entry_length(row, i);
+        i += 1;
+    }
+    n
+}
+
+// The length of the header's text: `p cnf `, V, a space, C and LF.
+fn header_length(v: u32, c: u32) -> usize
+    ensures { λ r. ⌜ r ≡ length (headerText v c) ⌝ }
+{
+    decimal_length(v) + decimal_length(c) + 8
+}
+
+// The length of a list's text.
+fn list_length(v: u32, c: u32, row: &[i32]) -> usize
+    requires { ⌜ length (now row) ≤ maxEntries ⌝ }
+    ensures { λ r. ⌜ r ≡ length (listText v c (now (row .entry))) ⌝ }
+{
+    header_length(v, c) + row_length(row)
+}
+
+// Prints an entry in decimal.
+fn print_number(text: &mut [u8], at: usize, row: &[i32], i: usize) -> usize
+    requires { ⌜ i < length (now row) ⌝ }
+    requires { ⌜ at + length (signedDecimal (getD (now row) i (pos 0))) ≤ length (now text) ⌝ }
+    ensures { λ r. ⌜ Wrote (now (text .entry)) at (signedDecimal (getD (now (row .entry)) i (pos 0))) (now (text .exit)) r ⌝ }
+{
+    let m = magnitude_at(row, i);
+    if is_negative_at(row, i) {
+        let next = put(text, at, b'-');
+        return put_decimal(text, next, m);
+    }
+    put_decimal(text, at, m)
+}
+
+// Prints an entry.
+fn print_entry(text: &mut [u8], at: usize, row: &[i32], i: usize) -> usize
+    requires { ⌜ i < length (now row) ⌝ }
+    requires { ⌜ at + length (entryText (getD (now row) i (pos 0))) ≤ length (now text) ⌝ }
+    ensures { λ r. ⌜ Wrote (now (text .entry)) at (entryText (getD (now (row .entry)) i (pos 0))) (now (text .exit)) r ⌝ }
+{
+    if magnitude_at(row, i) == 0 {
+        return put_bytes(text, at, b"0\n");
+    }
+    let next = print_number(text, at, row, i);
+    put(text, next, b' ')
+}
+
+// Prints a row.
+fn print_row(text: &mut [u8], at: usize, row: &[i32]) -> usize
+    requires { ⌜ at + length (rowText (now row)) ≤ length (now text) ⌝ }
+    ensures { λ r. ⌜ Wrote (now (text .entry)) at (rowText (now (row .entry))) (now (text .exit)) r ⌝ }
+{
+    let mut next = at;
+    let mut i = 0;
+    while i < row.len() {
+        next = print_entry(text, next, row, i);
+        i += 1;
+    }
+    next
+}
+
+// Prints the header at the start.
+fn print_header(text: &mut [u8], v: u32, c: u32) -> usize
+    requires { ⌜ length (headerText v c) ≤ length (now text) ⌝ }
+    ensures { λ r. ⌜ Wrote (now (text .entry)) 0 (headerText v c) (now (text .exit)) r ⌝ }
+{
+    let nets = put_bytes(text, 0, b"p cnf ");
+    let clauses = put_word(text, nets, v, b' ');
+    put_word(text, clauses, c, b'\n')
+}
+
+// Prints a list's text at the start.
+fn print_list(text: &mut [u8], v: u32, c: u32, row: &[i32]) -> usize
+    requires { ⌜ length (listText v c (now row)) ≤ length (now text) ⌝ }
+    ensures { λ r. ⌜ Wrote (now (text .entry)) 0 (listText v c (now (row .entry))) (now (text .exit)) r ⌝ }
+{
+    let body = print_header(text, v, c);
+    print_row(text, body, row)
+}
+
+// Prints a clause list: first the tests, then the text's length, then the text.
+pub fn print(v: u32, c: u32, row: &[i32], text: &mut [u8]) -> Printing
+    ensures { λ r. ⌜ r ≡ printing v c (now (row .entry)) (now (text .entry)) .result ⌝ }
+    ensures { λ _. ⌜ now (text .exit) ≡ printing v c (now (row .entry)) (now (text .entry)) .buffer ⌝ }
+{
+    let sizes = check_sizes(v, c, row.len());
+    if let Check::Refused(r) = sizes {
+        return Printing::Refused(r);
+    }
+    let entries = check_entries(c, tally_row(v, row));
+    if let Check::Refused(r) = entries {
+        return Printing::Refused(r);
+    }
+    let length = list_length(v, c, row);
+    if text.len() < length {
+        return Printing::Refused(Refusal::BufferTooShort);
+    }
+    if MAX_TEXT < length {
+        return Printing::Refused(Refusal::BufferTooShort);
+    }
+    Printing::Written(print_list(text, v, c, row))
+}
