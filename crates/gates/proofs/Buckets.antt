@@ -1,0 +1,83 @@
+-- Buckets of clauses: equal sets have the same one.
+-- Assumes nothing.
+use mathlib.Core.Path.{_≡_, refl, sym, _∙_, ap}
+use mathlib.Core.Bool.{true, false}
+use mathlib.Core.List.{List, _∷_}
+use Prim.Native.Nat.{ℕ, _+_, _%_, _≤_, _<_}
+use native.Mathlib.Omega.{arith}
+use lib.ListN.{length, getD, drop}
+use borrow.Table.Steps.{cases}
+use Rattle.clauses.specs.Lists.{Pick, first, later}
+use Rattle.clauses.specs.Clause.{Same}
+use Rattle.clauses.specs.Listing.{mem, literals}
+use Rattle.clauses.proofs.Distinct.{Distinct, empty, more}
+use Rattle.clauses.proofs.Picks.{Perm, perm-of-same}
+use Rattle.clauses.proofs.Clauses.{mem-in, same-sym, same-trans, literals-same, literals-distinct}
+use Rattle.gates.specs.Found.{clauseAt}
+use Rattle.gates.specs.Index.{share, sum, buckets, bucketOf}
+use Rattle.gates.proofs.Rows.{clause-none, clause-stops, clause-goes-on}
+use Rattle.gates.proofs.Walks.{from-end, from-on}
+
+sum-pick : {x : ℕ} {xs ys : List ℕ} → Pick x xs ys → sum xs ≡ share x + sum ys
+unfolding sum
+sum-pick first = refl
+sum-pick (later h) = omega (arith, sum-pick h)
+
+sum-perm : {xs ys : List ℕ} → Perm xs ys → sum xs ≡ sum ys
+unfolding sum
+sum-perm Perm.none = refl
+sum-perm (Perm.one {x = x} h p) = ap (λ (s : ℕ). share x + s) (sum-perm p) ∙ sym (sum-pick h)
+
+pub same-bucket : (c d : List ℕ) → Same c d → bucketOf c ≡ bucketOf d
+unfolding bucketOf
+same-bucket c d s =
+    let p = perm-of-same (literals c) (literals d) (literals-distinct c) (literals-distinct d) (same-trans (literals-same c) (same-trans s (same-sym (literals-same d)))) in
+    ap (λ (n : ℕ). n % 4096) (sum-perm p)
+
+pub bucket-small : (c : List ℕ) → bucketOf c < buckets
+unfolding bucketOf
+bucket-small c = omega arith
+
+literals-once : {c : List ℕ} → Distinct c → literals c ≡ c
+unfolding literals
+literals-once empty = refl
+literals-once (more {x = x} {xs = xs} n d) = cases (mem x xs) (λ t. absurd (n (mem-in x xs t))) (λ t. rw (t, literals) (ap (λ (l : List ℕ). x ∷ l) (literals-once d)))
+
+-- The sum so far, and that of the rest
+
+pub share-small : (x : ℕ) → share x < 65537
+unfolding share
+share-small x = omega arith
+
+module _ (q : List ℕ) (i : ℕ) where
+  pub rest-end : length q ≤ i → sum (literals (drop i q)) ≡ 0
+  unfolding sum literals
+  rest-end h = ap (λ (l : List ℕ). sum (literals l)) (from-end q i h)
+
+  pub rest-new : i < length q → mem (getD q i 0) (drop (i + 1) q) ≡ false → sum (literals (drop i q)) ≡ share (getD q i 0) + sum (literals (drop (i + 1) q))
+  unfolding sum literals
+  rest-new h e = ap (λ (l : List ℕ). sum (literals l)) (from-on q i h) ∙ rw (e, literals)
+
+  pub rest-again : i < length q → mem (getD q i 0) (drop (i + 1) q) ≡ true → sum (literals (drop i q)) ≡ sum (literals (drop (i + 1) q))
+  unfolding literals
+  rest-again h e = ap (λ (l : List ℕ). sum (literals l)) (from-on q i h) ∙ rw (e, literals)
+
+module _ (row : List ℕ) (i : ℕ) where
+  pub clause-sum-end : length row ≤ i → sum (clauseAt row i) ≡ 0
+  unfolding sum
+  clause-sum-end h = ap sum (clause-none row i h)
+
+  pub clause-sum-stop : i < length row → getD row i 0 ≡ 0 → sum (clauseAt row i) ≡ 0
+  unfolding sum
+  clause-sum-stop h e = ap sum (clause-stops row i h e)
+
+  pub clause-sum-on : i < length row → (getD row i 0 ≡ 0 → ⊥) → sum (clauseAt row i) ≡ share (getD row i 0) + sum (clauseAt row (i + 1))
+  unfolding sum
+  clause-sum-on h n = ap sum (clause-goes-on row i h n)
+
+pub bucket-sum : (c : List ℕ) (s : ℕ) → s < buckets → (s + 0) % buckets ≡ sum (literals c) % buckets → s ≡ bucketOf c
+unfolding bucketOf
+bucket-sum c s h e = omega arith
+
+pub clause-bucket : (c : List ℕ) → Distinct c → (s : ℕ) → s < buckets → (s + 0) % buckets ≡ sum c % buckets → s ≡ bucketOf c
+clause-bucket c d s h e = bucket-sum c s h (rw (literals-once d) e)

@@ -1,0 +1,51 @@
+-- Each clause of a row of codes stands, as a set, at one place that is the first of its set.
+-- Assumes nothing.
+use mathlib.Core.Path.{_≡_, refl, _∙_, ap, subst⁻¹}
+use mathlib.Core.Bool.{true, false≢true}
+use mathlib.Core.List.{List}
+use Prim.Native.Nat.{ℕ}
+use borrow.Author.Tests.{eq-eqb, eqb-true}
+use Rattle.clauses.specs.Clause.{Same, Present, clausesIn}
+use Rattle.clauses.proofs.Clauses.{same-sym, same-trans}
+use Rattle.gates.specs.declared.search.Place.{Place}
+use Rattle.gates.specs.declared.search.Place.the-variants.{At, Nothing}
+use Rattle.gates.specs.Found.{clauseAt, Starts}
+use Rattle.gates.specs.Search.{placeOf}
+use Rattle.gates.specs.Mark.{isAt, isFirst}
+use Rattle.gates.proofs.Rows.{listed-starts}
+use Rattle.gates.proofs.Places.{First, place-first, place-nothing, first-only, first-place}
+
+module _ (row : List ℕ) where
+  pub first-same : {q r : List ℕ} {b : ℕ} → Same q r → First row q b → First row r b
+  first-same s f = record { start = f .start; same = same-trans (same-sym s) (f .same); least = λ p h k t. f .least p h k (same-trans s t) }
+
+  first-is : (b : ℕ) → isFirst row b ≡ true → First row (clauseAt row b) b
+  unfolding isFirst isAt
+  first-is b h = go (placeOf row (clauseAt row b)) refl
+    where
+      go : (r : Place) → placeOf row (clauseAt row b) ≡ r → First row (clauseAt row b) b
+      go (At a) e = place-first row (clauseAt row b) (e ∙ ap At (eqb-true a b (rw e at h)))
+      go Nothing e = absurd (false≢true (rw e at h))
+
+  -- no two of one set
+  pub first-once : (a b : ℕ) → isFirst row a ≡ true → isFirst row b ≡ true → Same (clauseAt row a) (clauseAt row b) → a ≡ b
+  first-once a b f g s = first-only row (clauseAt row a) (first-is a f) (first-same (same-sym s) (first-is b g))
+
+  -- where the set of a clause stands first
+  pub record FirstOf (c : List ℕ) : Type 0 where
+    pub place : ℕ
+    pub start : Starts row place
+    pub first : isFirst row place ≡ true
+    pub same : Same c (clauseAt row place)
+
+  pub first-of : {c : List ℕ} → Present (clausesIn row) c → FirstOf c
+  unfolding isFirst isAt
+  first-of {c} h = go (placeOf row c) refl
+    where
+      go : (r : Place) → placeOf row c ≡ r → FirstOf c
+      go (At b) e =
+          let f = place-first row c e in
+          record { place = b; start = f .start; first = rw (first-place row (clauseAt row b) (first-same (f .same) f)) (eq-eqb b b refl); same = f .same }
+      go Nothing e =
+          let s = listed-starts row (h .found) (h .listed) in
+          absurd (place-nothing row c e (s .place) (s .start) (subst⁻¹ (Same c) (s .is) (h .same)))

@@ -1,0 +1,153 @@
+-- The ways to change an even number of a clause's signs are the masks with an even number of bits.
+-- Assumes nothing.
+use mathlib.Core.Path.{_≡_, refl, sym, _∙_, ap, ap₂, subst, subst⁻¹}
+use mathlib.Core.Logic.{_⊎_, inl, inr}
+use mathlib.Core.Bool.{Bool, true, false, not, _||_, false≢true, Bool·not-not}
+use mathlib.Core.List.{List, [], _∷_, _++_, map, List·Memᴰ, List·Memᴰ·head, List·Memᴰ·append-cases, Memᴰ·append-left, Memᴰ·append-right, append-assoc, append-nil}
+use Prim.Native.Nat.{ℕ, suc, _+_, _*_, _/_, _^_, _≤_, _<_}
+use native.Mathlib.Nat.{pow-succ'}
+use native.Mathlib.Numerals.{add-one}
+use native.Mathlib.Omega.{arith}
+use lib.ListN.{length, getD, take, drop, set, drop-of-length-le}
+use lib.Seq.{drop-cons, take-suc-set}
+use Rattle.clauses.specs.Code.{negate}
+use Rattle.clauses.specs.Lists.{all}
+use Rattle.clauses.specs.Listing.{present}
+use Rattle.clauses.proofs.Lists.{mem-map, mem-of-map, all-have, have-all}
+use Rattle.gates.specs.Sign.{plus, flip, isInverse}
+use Rattle.gates.specs.Listing.{signed}
+use Rattle.gates.specs.Mark.{masked, maskOdd}
+use Rattle.gates.proofs.Signs.{inverse-of-odd, plain-of-even, plus-false, plus-assoc}
+
+-- Masks and the enumerated signs
+
+masked-signed : (ls : List ℕ) (m : ℕ) → List·Memᴰ (masked m ls) (signed ls (maskOdd m ls))
+unfolding masked maskOdd signed
+masked-signed [] m = List·Memᴰ·head refl
+masked-signed (l ∷ ls) m = go (isInverse m) (masked-signed ls (m / 2))
+  where
+    go : (b : Bool) → List·Memᴰ (masked (m / 2) ls) (signed ls (maskOdd (m / 2) ls))
+        → List·Memᴰ (flip b l ∷ masked (m / 2) ls) (signed (l ∷ ls) (plus b (maskOdd (m / 2) ls)))
+    go false ih = Memᴰ·append-left (map (λ d. negate l ∷ d) (signed ls (not (maskOdd (m / 2) ls)))) (mem-map (λ (d : List ℕ). l ∷ d) ih)
+    go true ih =
+        Memᴰ·append-right (map (λ d. l ∷ d) (signed ls (not (maskOdd (m / 2) ls))))
+        (mem-map (λ (d : List ℕ). negate l ∷ d) (subst⁻¹ (λ (b : Bool). List·Memᴰ (masked (m / 2) ls) (signed ls b)) (Bool·not-not (maskOdd (m / 2) ls)) ih))
+
+record Mask (ls : List ℕ) (b : Bool) (c : List ℕ) : Type 0 where
+  mask : ℕ
+  below : mask < 2 ^ length ls
+  odd : maskOdd mask ls ≡ b
+  makes : masked mask ls ≡ c
+
+-- one bit more
+mask-more : (l : ℕ) (ls : List ℕ) (b t : Bool) (c : List ℕ) → Mask ls b c → Mask (l ∷ ls) (plus t b) (flip t l ∷ c)
+unfolding masked maskOdd
+mask-more l ls b t c h = go t
+  where
+    m : ℕ
+    m = h .mask
+
+    bound : 2 ^ suc (length ls) ≡ 2 * 2 ^ length ls
+    bound = pow-succ' 2 (length ls)
+
+    go : (t : Bool) → Mask (l ∷ ls) (plus t b) (flip t l ∷ c)
+    go false =
+        let e : isInverse (2 * m) ≡ false = plain-of-even (2 * m) (omega arith) in
+        let q : 2 * m / 2 ≡ m = omega arith in
+        record {
+          mask = 2 * m;
+          below = rw bound (omega (arith, h .below));
+          odd = rw (e, q) (h .odd);
+          makes = rw (e, q) (ap (λ (d : List ℕ). l ∷ d) (h .makes));
+        }
+    go true =
+        let e : isInverse (2 * m + 1) ≡ true = inverse-of-odd (2 * m + 1) (omega arith) in
+        let q : (2 * m + 1) / 2 ≡ m = omega arith in
+        record {
+          mask = 2 * m + 1;
+          below = rw bound (omega (arith, h .below));
+          odd = rw (e, q) (ap not (h .odd));
+          makes = rw (e, q) (ap (λ (d : List ℕ). negate l ∷ d) (h .makes));
+        }
+
+signed-mask : (ls : List ℕ) (b : Bool) (c : List ℕ) → List·Memᴰ c (signed ls b) → Mask ls b c
+unfolding signed masked maskOdd
+signed-mask [] false c (List·Memᴰ·head e) = record { mask = 0; below = omega arith; odd = refl; makes = sym e }
+signed-mask [] true c k = elim k [ ]
+signed-mask (l ∷ ls) b c k = go (List·Memᴰ·append-cases (map (λ d. l ∷ d) (signed ls b)) k) (signed-mask ls)
+  where
+    go : List·Memᴰ c (map (λ d. l ∷ d) (signed ls b)) ⊎ List·Memᴰ c (map (λ d. negate l ∷ d) (signed ls (not b)))
+        → ((e : Bool) (d : List ℕ) → List·Memᴰ d (signed ls e) → Mask ls e d) → Mask (l ∷ ls) b c
+    go (inl m) ih =
+        let o = mem-of-map (λ d. l ∷ d) (signed ls b) m in
+        subst⁻¹ (Mask (l ∷ ls) b) (o .is) (mask-more l ls b false (o .of) (ih b (o .of) (o .in-list)))
+    go (inr m) ih =
+        let o = mem-of-map (λ d. negate l ∷ d) (signed ls (not b)) m in
+        subst⁻¹ (Mask (l ∷ ls) b) (o .is)
+        (subst (λ (e : Bool). Mask (l ∷ ls) e (negate l ∷ o .of)) (Bool·not-not b) (mask-more l ls (not b) true (o .of) (ih (not b) (o .of) (o .in-list))))
+
+module _ (cs : List (List ℕ)) (c : List ℕ) where
+  -- all masks pass
+  pub masks-pass : ((m : ℕ) → m < 2 ^ length c → (maskOdd m c || present cs (masked m c)) ≡ true) → all (present cs) (signed c false) ≡ true
+  masks-pass h =
+      have-all (present cs) (signed c false) (λ d k.
+      let p = signed-mask c false d k in
+      ap (present cs) (sym (p .makes)) ∙ sym (ap (λ (b : Bool). b || present cs (masked (p .mask) c)) (p .odd)) ∙ h (p .mask) (p .below))
+
+  -- one does not
+  pub mask-fails : (m : ℕ) → (maskOdd m c || present cs (masked m c)) ≡ false → all (present cs) (signed c false) ≡ false
+  mask-fails m h = go (maskOdd m c) refl (present cs (masked m c)) refl (all (present cs) (signed c false)) refl
+    where
+      go : (a : Bool) → maskOdd m c ≡ a → (b : Bool) → present cs (masked m c) ≡ b → (t : Bool) → all (present cs) (signed c false) ≡ t → t ≡ false
+      go a p b q false r = refl
+      go true p b q true r = absurd (false≢true (sym h ∙ ap (λ (x : Bool). x || present cs (masked m c)) p))
+      go false p true q true r = absurd (false≢true (sym h ∙ ap₂ _||_ p q))
+      go false p false q true r =
+          absurd (false≢true (sym q ∙ all-have (present cs) (signed c false) r (masked m c) (subst (λ (b : Bool). List·Memᴰ (masked m c) (signed c b)) p (masked-signed c m))))
+
+-- Writing a clause with its changed signs from place i on
+
+module _ (c : List ℕ) (i m : ℕ) where
+  masked-end : length c ≤ i → masked m (drop i c) ≡ []
+  unfolding masked
+  masked-end h = rw (drop-of-length-le c h)
+
+  maskOdd-end : length c ≤ i → maskOdd m (drop i c) ≡ false
+  unfolding maskOdd
+  maskOdd-end h = rw (drop-of-length-le c h)
+
+  masked-on : i < length c → masked m (drop i c) ≡ flip (isInverse m) (getD c i 0) ∷ masked (m / 2) (drop (i + 1) c)
+  unfolding masked
+  masked-on h = rw (drop-cons c i 0 h, add-one)
+
+  maskOdd-on : i < length c → maskOdd m (drop i c) ≡ plus (isInverse m) (maskOdd (m / 2) (drop (i + 1) c))
+  unfolding maskOdd
+  maskOdd-on h = rw (drop-cons c i 0 h, add-one)
+
+-- what is written, q's first i places, and what comes from there on make the clause with its changed signs
+pub record Writes (mask : ℕ) (c q : List ℕ) (i m : ℕ) (odd : Bool) : Type 0 where
+  pub literals : take i q ++ masked m (drop i c) ≡ masked mask c
+  pub count : plus odd (maskOdd m (drop i c)) ≡ maskOdd mask c
+
+pub writes-start : (mask : ℕ) (c q : List ℕ) → Writes mask c q 0 mask false
+writes-start mask c q = record { literals = refl; count = refl }
+
+pub writes-on : (mask : ℕ) (c q : List ℕ) (i m : ℕ) (odd : Bool) (x : ℕ) → i < length c → i < length q → x ≡ flip (isInverse m) (getD c i 0)
+    → Writes mask c q i m odd → Writes mask c (set q i x) (i + 1) (m / 2) (plus odd (isInverse m))
+writes-on mask c q i m odd x h k e w =
+    let t : take (i + 1) (set q i x) ≡ take i q ++ (x ∷ []) = ap (λ (j : ℕ). take j (set q i x)) (add-one i) ∙ take-suc-set q i x k in
+    let s : masked m (drop i c) ≡ x ∷ masked (m / 2) (drop (i + 1) c) = rw e (masked-on c i m h) in
+    record {
+      literals =
+          ap (λ (l : List ℕ). l ++ masked (m / 2) (drop (i + 1) c)) t ∙ append-assoc (take i q) (x ∷ []) (masked (m / 2) (drop (i + 1) c))
+          ∙ ap (λ (l : List ℕ). take i q ++ l) (sym s) ∙ w .literals;
+      count = sym (plus-assoc odd (isInverse m) (maskOdd (m / 2) (drop (i + 1) c))) ∙ ap (plus odd) (sym (maskOdd-on c i m h)) ∙ w .count;
+    }
+
+pub writes-end : (mask : ℕ) (c q : List ℕ) (i m : ℕ) (odd : Bool) → i ≡ length c → Writes mask c q i m odd
+    → (odd ≡ maskOdd mask c) × (take (length c) q ≡ masked mask c)
+writes-end mask c q i m odd e w =
+    let h : length c ≤ i = omega arith in (
+      sym (plus-false odd) ∙ ap (plus odd) (sym (maskOdd-end c i m h)) ∙ w .count,
+      ap (λ (k : ℕ). take k q) (sym e) ∙ sym (append-nil (take i q)) ∙ ap (λ (l : List ℕ). take i q ++ l) (sym (masked-end c i m h)) ∙ w .literals,
+    )

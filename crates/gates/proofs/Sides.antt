@@ -1,0 +1,382 @@
+-- The sides of ITEs: a side is two clauses that are present, and each stands at one half of the row.
+-- Assumes nothing.
+use mathlib.Core.Path.{_≡_, refl, sym, _∙_, ap, subst, subst⁻¹}
+use mathlib.Core.Logic.{_≢_, _⊎_, inl, inr}
+use mathlib.Core.Bool.{Bool, true, false, not, false≢true, true≢false}
+use mathlib.Core.List.{List, [], _∷_, List·Memᴰ·head, List·Memᴰ·tail, Memᴰ·cast, List·Memᴰ·not-nil}
+use Prim.Native.Nat.{ℕ, _+_, _≤_, _<_}
+use native.Mathlib.Omega.{arith}
+use native.Mathlib.Decide.{ℕ-discrete}
+use borrow.Author.Tests.{eq-eqb, eqb-true}
+use lib.ListN.{length, getD}
+use Rattle.clauses.specs.Code.{negate, net}
+use Rattle.clauses.specs.Clause.{clausesIn, Mem, Within, Same, Tautology, Present}
+use Rattle.clauses.specs.Listing.{present}
+use Rattle.clauses.proofs.Lists.{and-both, both-and}
+use Rattle.clauses.proofs.Distinct.{Distinct, empty, more}
+use Rattle.clauses.proofs.Codes.{negate-negate, same-net}
+use Rattle.clauses.proofs.Clauses.{present-is, is-present, same-refl, same-sym, same-trans, present-same, present-proper}
+use Rattle.clauses.proofs.Picks.{perm-of-same, perm-length}
+use Rattle.gates.specs.Gate.{Apart, IteGate}
+use Rattle.gates.specs.Found.{clauseAt, around, Starts, LiteralAt}
+use Rattle.gates.specs.Search.{placeOf}
+use Rattle.gates.specs.Normal.{Normal}
+use Rattle.gates.specs.Mark.{isAt, startOf}
+use Rattle.gates.specs.Ites.{inThree, other, isPaired}
+use Rattle.gates.specs.declared.search.Place.{Place}
+use Rattle.gates.specs.declared.search.Place.the-variants.{At, Nothing}
+use Rattle.gates.proofs.Rows.{LiteralOf, literal-of, starts-listed}
+use Rattle.gates.proofs.Places.{First, place-first, first-only, first-place, nothing-present}
+use Rattle.gates.proofs.Firsts.{first-same}
+use Rattle.gates.proofs.Marks.{clause-distinct}
+use Rattle.gates.proofs.Threes.{Three, InThree, in-three-is, is-in-three, start-in-three, around-in, around-apart}
+
+-- Sets of three literals
+
+within-three : (a b c : ℕ) (d : List ℕ) → Mem a d → Mem b d → Mem c d → Within (a ∷ b ∷ c ∷ []) d
+within-three a b c d i j k x (List·Memᴰ·head e) = Memᴰ·cast e i
+within-three a b c d i j k x (List·Memᴰ·tail (List·Memᴰ·head e)) = Memᴰ·cast e j
+within-three a b c d i j k x (List·Memᴰ·tail (List·Memᴰ·tail (List·Memᴰ·head e))) = Memᴰ·cast e k
+within-three a b c d i j k x (List·Memᴰ·tail (List·Memᴰ·tail (List·Memᴰ·tail m))) = absurd (List·Memᴰ·not-nil m)
+
+mem-one : {a b c : ℕ} → Mem a (a ∷ b ∷ c ∷ [])
+mem-one = List·Memᴰ·head refl
+
+mem-two : {a b c : ℕ} → Mem b (a ∷ b ∷ c ∷ [])
+mem-two = List·Memᴰ·tail (List·Memᴰ·head refl)
+
+mem-three : {a b c : ℕ} → Mem c (a ∷ b ∷ c ∷ [])
+mem-three = List·Memᴰ·tail (List·Memᴰ·tail (List·Memᴰ·head refl))
+
+swap : (a b c : ℕ) → Same (a ∷ b ∷ c ∷ []) (a ∷ c ∷ b ∷ [])
+swap a b c = record { left = within-three a b c (a ∷ c ∷ b ∷ []) mem-one mem-three mem-two; right = within-three a c b (a ∷ b ∷ c ∷ []) mem-one mem-three mem-two }
+
+three-equal : {a b c d e f : ℕ} → a ≡ d → b ≡ e → c ≡ f → a ∷ b ∷ c ∷ [] ≡ d ∷ e ∷ f ∷ []
+three-equal p q r = rw (p, q, r)
+
+three-distinct : {a b c : ℕ} → a ≢ b → a ≢ c → b ≢ c → Distinct (a ∷ b ∷ c ∷ [])
+three-distinct {a} {b} {c} ab ac bc = more first (more second (more (λ k. List·Memᴰ·not-nil k) empty))
+  where
+    second : Mem b (c ∷ []) → ⊥
+    second (List·Memᴰ·head e) = bc e
+    second (List·Memᴰ·tail k) = List·Memᴰ·not-nil k
+
+    first : Mem a (b ∷ c ∷ []) → ⊥
+    first (List·Memᴰ·head e) = ab e
+    first (List·Memᴰ·tail (List·Memᴰ·head e)) = ac e
+    first (List·Memᴰ·tail (List·Memᴰ·tail k)) = List·Memᴰ·not-nil k
+
+-- in a clause that is no tautology different literals are of different nets
+nets-differ : {c : List ℕ} → ¬ Tautology c → (a b : ℕ) → Mem a c → Mem b c → a ≢ b → net a ≢ net b
+nets-differ {c} t a b i j n e = go (same-net a b e)
+  where
+    go : (a ≡ b) ⊎ (a ≡ negate b) → ⊥
+    go (inl q) = n q
+    go (inr q) = t (record { lit = b; plain = j; inverse = Memᴰ·cast (sym q) i })
+
+-- A side
+
+pub record Side (cs : List (List ℕ)) (l c t : ℕ) : Type 0 where
+  pub select-output : net c ≢ net l
+  pub side-output : net t ≢ net l
+  pub side-select : net t ≢ net c
+  pub up : Present cs (negate c ∷ negate l ∷ t ∷ [])
+  pub down : Present cs (negate c ∷ l ∷ negate t ∷ [])
+
+present-equal : {cs : List (List ℕ)} {c d : List ℕ} → d ≡ c → Present cs c → Present cs d
+present-equal {cs} e h = subst⁻¹ (Present cs) e h
+
+pub sides-ite : {cs : List (List ℕ)} {l c t e : ℕ} → Side cs l c t → Side cs l (negate c) e → net e ≢ net t → IteGate cs l c t e
+sides-ite {l = l} {c = c} {t = t} {e = e} s r n =
+    record {
+      apart = Apart.more first (Apart.more second (Apart.more third (Apart.more (λ m k. absurd (List·Memᴰ·not-nil k)) Apart.empty)));
+      then-up = s .up;
+      then-down = s .down;
+      else-up = present-equal (three-equal (sym (negate-negate c)) refl refl) (r .up);
+      else-down = present-equal (three-equal (sym (negate-negate c)) refl refl) (r .down);
+    }
+  where
+    third : (m : ℕ) → Mem m (e ∷ []) → net m ≢ net t
+    third m (List·Memᴰ·head q) = rw q n
+    third m (List·Memᴰ·tail k) = absurd (List·Memᴰ·not-nil k)
+
+    second : (m : ℕ) → Mem m (t ∷ e ∷ []) → net m ≢ net c
+    second m (List·Memᴰ·head q) = rw q (s .side-select)
+    second m (List·Memᴰ·tail (List·Memᴰ·head q)) = rw q (λ h. r .side-select (omega arith))
+    second m (List·Memᴰ·tail (List·Memᴰ·tail k)) = absurd (List·Memᴰ·not-nil k)
+
+    first : (m : ℕ) → Mem m (c ∷ t ∷ e ∷ []) → net m ≢ net l
+    first m (List·Memᴰ·head q) = rw q (s .select-output)
+    first m (List·Memᴰ·tail (List·Memᴰ·head q)) = rw q (s .side-output)
+    first m (List·Memᴰ·tail (List·Memᴰ·tail (List·Memᴰ·head q))) = rw q (r .side-output)
+    first m (List·Memᴰ·tail (List·Memᴰ·tail (List·Memᴰ·tail k))) = absurd (List·Memᴰ·not-nil k)
+
+pub ite-sides : {cs : List (List ℕ)} {l c t e : ℕ} → IteGate cs l c t e → Side cs l c t × Side cs l (negate c) e × (net e ≢ net t)
+ite-sides {cs} {l} {c} {t} {e} g = go (g .apart)
+  where
+    go : Apart (l ∷ c ∷ t ∷ e ∷ []) → Side cs l c t × Side cs l (negate c) e × (net e ≢ net t)
+    go (Apart.more f (Apart.more h (Apart.more k r))) = (
+      record { select-output = f c mem-one; side-output = f t mem-two; side-select = h t (List·Memᴰ·head refl); up = g .then-up; down = g .then-down },
+      record {
+        select-output = λ q. f c mem-one (omega arith);
+        side-output = f e mem-three;
+        side-select = λ q. h e (List·Memᴰ·tail (List·Memᴰ·head refl)) (omega arith);
+        up = present-equal (three-equal (negate-negate c) refl refl) (g .else-up);
+        down = present-equal (three-equal (negate-negate c) refl refl) (g .else-down);
+      },
+      k e (List·Memᴰ·head refl),
+    )
+
+-- The halves of a row
+
+is-at : (b : ℕ) (q : Place) → isAt b q ≡ true → q ≡ At b
+unfolding isAt
+is-at b (At a) h = ap At (eqb-true a b h)
+is-at b Nothing h = absurd (false≢true h)
+
+at-is : (b : ℕ) (q : Place) → q ≡ At b → isAt b q ≡ true
+unfolding isAt
+at-is b q e = rw e (eq-eqb b b refl)
+
+module _ {row : List ℕ} (normal : Normal row) where
+  -- the literal at a place of a clause of three, with the other two
+  abbrev clause-of : ℕ → List ℕ
+  clause-of p = getD row p 0 ∷ other row p false ∷ other row p true ∷ []
+
+  record Paired (p : ℕ) : Type 0 where
+    three : InThree row p
+    clause : First row (clause-of p) (startOf row p)
+    companion : Present (clausesIn row) (getD row p 0 ∷ negate (other row p false) ∷ negate (other row p true) ∷ [])
+
+  paired-is : (p : ℕ) → isPaired row p ≡ true → Paired p
+  unfolding isPaired
+  paired-is p h =
+      let a = and-both (inThree row p) _ h in
+      let d = and-both (present (clausesIn row) (getD row p 0 ∷ negate (other row p false) ∷ negate (other row p true) ∷ [])) _ (a .1) in
+      record { three = in-three-is row p (a .0); clause = place-first row (clause-of p) (is-at _ _ (d .1)); companion = present-is _ _ (d .0) }
+
+  is-paired : (p b : ℕ) → startOf row p ≡ b → inThree row p ≡ true → First row (clause-of p) b
+      → Present (clausesIn row) (getD row p 0 ∷ negate (other row p false) ∷ negate (other row p true) ∷ []) → isPaired row p ≡ true
+  unfolding isPaired
+  is-paired p b e h f k = rw e (both-and h (both-and (is-present _ _ k) (at-is b _ (first-place row (clause-of p) f))))
+
+  -- the clause of a paired place is present
+  clause-present : (p : ℕ) → Paired p → Present (clausesIn row) (clause-of p)
+  clause-present p k =
+      let m = starts-listed row (startOf row p) (k .clause .start) in
+      record { found = clauseAt row (startOf row p); listed = m; proper = normal .proper _ m; same = k .clause .same }
+
+  literal-here : (b q : ℕ) → Starts row b → Three row b → b ≤ q → q < b + 3 → LiteralAt row b q
+  literal-here b q s t l u = record { start = s; low = l; high = omega (arith, t .size) }
+
+  pub half-literal : (p : ℕ) → isPaired row p ≡ true → LiteralAt row (startOf row p) p
+  half-literal p h = let k = paired-is p h in literal-here (startOf row p) p (k .clause .start) (k .three .clause) (k .three .low) (k .three .high)
+
+  record Differ (p : ℕ) : Type 0 where
+    next : getD row p 0 ≢ other row p false
+    after : getD row p 0 ≢ other row p true
+    others : other row p false ≢ other row p true
+
+  differ : (p : ℕ) → Paired p → Differ p
+  unfolding other
+  differ p k =
+      let b = startOf row p in
+      let t = k .three in
+      let r = around-in b p (t .low) (t .high) in
+      let s = around-in b (around b p) (r .0) (r .1) in
+      let d = around-apart b p (t .low) (t .high) in
+      let at-p = literal-here b p (k .clause .start) (t .clause) (t .low) (t .high) in
+      let at-next = literal-here b (around b p) (k .clause .start) (t .clause) (r .0) (r .1) in
+      let at-after = literal-here b (around b (around b p)) (k .clause .start) (t .clause) (s .0) (s .1) in
+      record {
+        next = λ e. d .0 (sym (normal .once b p (around b p) at-p at-next e));
+        after = λ e. d .1 (sym (normal .once b p (around b (around b p)) at-p at-after e));
+        others = λ e. d .2 (sym (normal .once b (around b p) (around b (around b p)) at-next at-after e));
+      }
+
+  -- a half is a side
+  pub half-side : (p : ℕ) → isPaired row p ≡ true → (a : Bool) → Side (clausesIn row) (negate (other row p a)) (negate (getD row p 0)) (other row p (not a))
+  half-side p h a = go a
+    where
+      k : Paired p
+      k = paired-is p h
+
+      d : Differ p
+      d = differ p k
+
+      proper : ¬ Tautology (clause-of p)
+      proper = present-proper (clause-present p k)
+
+      xy : net (getD row p 0) ≢ net (other row p false)
+      xy = nets-differ proper _ _ mem-one mem-two (d .next)
+
+      xz : net (getD row p 0) ≢ net (other row p true)
+      xz = nets-differ proper _ _ mem-one mem-three (d .after)
+
+      yz : net (other row p false) ≢ net (other row p true)
+      yz = nets-differ proper _ _ mem-two mem-three (d .others)
+
+      go : (a : Bool) → Side (clausesIn row) (negate (other row p a)) (negate (getD row p 0)) (other row p (not a))
+      go false =
+          record {
+            select-output = λ e. xy (omega arith);
+            side-output = λ e. yz (omega arith);
+            side-select = λ e. xz (omega arith);
+            up = present-equal (three-equal (negate-negate _) (negate-negate _) refl) (clause-present p k);
+            down = present-equal (three-equal (negate-negate _) refl refl) (k .companion);
+          }
+      go true =
+          record {
+            select-output = λ e. xz (omega arith);
+            side-output = λ e. yz (omega arith);
+            side-select = λ e. xy (omega arith);
+            up = present-equal (three-equal (negate-negate _) (negate-negate _) refl) (present-same (swap _ _ _) (clause-present p k));
+            down = present-equal (three-equal (negate-negate _) refl refl) (present-same (swap _ _ _) (k .companion));
+          }
+
+  -- The place of a side
+
+  -- a half whose place has literal x, and whose other literals are y and z
+  pub record HalfOf (x y z : ℕ) : Type 0 where
+    pub place : ℕ
+    pub after : Bool
+    pub paired : isPaired row place ≡ true
+    pub select : getD row place 0 ≡ x
+    pub output : other row place after ≡ y
+    pub side : other row place (not after) ≡ z
+
+  found : (q : List ℕ) → Present (clausesIn row) q → (b : ℕ) × First row q b
+  found q h = go (placeOf row q) refl
+    where
+      go : (r : Place) → placeOf row q ≡ r → (b : ℕ) × First row q b
+      go (At b) e = (b, place-first row q e)
+      go Nothing e = absurd (true≢false (sym (is-present (clausesIn row) q h) ∙ nothing-present row q e))
+
+  module _ (x y z : ℕ) (xy : x ≢ y) (xz : x ≢ z) (yz : y ≢ z) (b : ℕ) (f : First row (x ∷ y ∷ z ∷ []) b)
+      (companion : Present (clausesIn row) (x ∷ negate y ∷ negate z ∷ [])) where
+    of-x : LiteralOf row b x
+    of-x = literal-of row b (f .start) x (f .same .left x mem-one)
+
+    of-y : LiteralOf row b y
+    of-y = literal-of row b (f .start) y (f .same .left y mem-two)
+
+    of-z : LiteralOf row b z
+    of-z = literal-of row b (f .start) z (f .same .left z mem-three)
+
+    places-differ : (u v : ℕ) (i : LiteralOf row b u) (j : LiteralOf row b v) → u ≢ v → i .place ≢ j .place
+    places-differ u v i j d e = d (sym (i .is) ∙ ap (λ (p : ℕ). getD row p 0) e ∙ j .is)
+
+    xy-places : of-x .place ≢ of-y .place
+    xy-places = places-differ x y of-x of-y xy
+
+    xz-places : of-x .place ≢ of-z .place
+    xz-places = places-differ x z of-x of-z xz
+
+    yz-places : of-y .place ≢ of-z .place
+    yz-places = places-differ y z of-y of-z yz
+
+    three-literals : length (clauseAt row b) ≡ 3
+    three-literals =
+        sym (perm-length (perm-of-same (x ∷ y ∷ z ∷ []) (clauseAt row b) (three-distinct xy xz yz) (clause-distinct normal b (f .start)) (f .same)))
+
+    three : Three row b
+    three = record { inside = rw three-literals at (normal .ended b (f .start)); size = three-literals }
+
+    high : (u : ℕ) (i : LiteralOf row b u) → i .place < b + 3
+    high u i = rw three-literals at (i .at .high)
+
+    start : startOf row (of-x .place) ≡ b
+    start = start-in-three row b (of-x .place) (f .start) three (of-x .at .low) (high x of-x)
+
+    abbrev next : ℕ
+    next = around b (of-x .place)
+
+    abbrev after : ℕ
+    after = around b (around b (of-x .place))
+
+    other-next : other row (of-x .place) false ≡ getD row next 0
+    unfolding other
+    other-next = rw start
+
+    other-after : other row (of-x .place) true ≡ getD row after 0
+    unfolding other
+    other-after = rw start
+
+    in-three : inThree row (of-x .place) ≡ true
+    in-three = is-in-three row b (of-x .place) start (high x of-x) three
+
+    settled : (next ≡ of-y .place) × (after ≡ of-z .place) → HalfOf x y z
+    settled (e, g) =
+        let u : other row (of-x .place) false ≡ y = other-next ∙ ap (λ (p : ℕ). getD row p 0) e ∙ of-y .is in
+        let v : other row (of-x .place) true ≡ z = other-after ∙ ap (λ (p : ℕ). getD row p 0) g ∙ of-z .is in
+        record {
+          place = of-x .place;
+          after = false;
+          paired = is-paired (of-x .place) b start in-three (rw (of-x .is, u, v) f) (rw (of-x .is, u, v) companion);
+          select = of-x .is;
+          output = u;
+          side = v;
+        }
+
+    crossed : (next ≡ of-z .place) × (after ≡ of-y .place) → HalfOf x y z
+    crossed (e, g) =
+        let u : other row (of-x .place) false ≡ z = other-next ∙ ap (λ (p : ℕ). getD row p 0) e ∙ of-z .is in
+        let v : other row (of-x .place) true ≡ y = other-after ∙ ap (λ (p : ℕ). getD row p 0) g ∙ of-y .is in
+        record {
+          place = of-x .place;
+          after = true;
+          paired = is-paired (of-x .place) b start in-three (rw (of-x .is, u, v) (first-same row (swap x y z) f)) (rw (of-x .is, u, v) (present-same (swap _ _ _) companion));
+          select = of-x .is;
+          output = v;
+          side = u;
+        }
+
+    half-of : HalfOf x y z
+    half-of = go (ℕ-discrete next (of-y .place)) (around-in b (of-x .place) (of-x .at .low) (high x of-x)) (around-apart b (of-x .place) (of-x .at .low) (high x of-x))
+      where
+        go : Dec (next ≡ of-y .place) → (b ≤ next) × (next < b + 3) → (next ≢ of-x .place) × (after ≢ of-x .place) × (after ≢ next) → HalfOf x y z
+        go (yes e) r d = settled (e, omega (arith, around-in b next (r .0) (r .1), d .1, d .2, xy-places, xz-places, yz-places, of-x .at .low, of-y .at .low, of-z .at .low, high x of-x, high y of-y, high z of-z))
+        go (no m) r d =
+            let e : next ≡ of-z .place = omega (arith, r, d .0, xy-places, xz-places, yz-places, of-x .at .low, of-y .at .low, of-z .at .low, high x of-x, high y of-y, high z of-z) in
+            crossed (e, omega (arith, around-in b next (r .0) (r .1), d .1, d .2, xy-places, xz-places, yz-places, of-x .at .low, of-y .at .low, of-z .at .low, high x of-x, high y of-y, high z of-z))
+
+  -- a side is a half
+  pub side-half : (l c t : ℕ) → Side (clausesIn row) l c t → HalfOf (negate c) (negate l) t
+  side-half l c t s =
+      let f = found (negate c ∷ negate l ∷ t ∷ []) (s .up) in
+      half-of (negate c) (negate l) t (λ e. s .select-output (omega arith)) (λ e. s .side-select (omega arith)) (λ e. s .side-output (omega arith)) (f .0) (f .1)
+      (present-equal (three-equal refl (negate-negate l) refl) (s .down))
+
+  -- .. and one only
+  clause-as : (p : ℕ) (a : Bool) → Same (clause-of p) (getD row p 0 ∷ other row p a ∷ other row p (not a) ∷ [])
+  clause-as p false = same-refl _
+  clause-as p true = swap _ _ _
+
+  pub half-once : (p q : ℕ) (a d : Bool) → isPaired row p ≡ true → isPaired row q ≡ true → getD row p 0 ≡ getD row q 0 → other row p a ≡ other row q d
+      → other row p (not a) ≡ other row q (not d) → (p ≡ q) × (a ≡ d)
+  half-once p q a d h k e f g = (same-place, same-after a d f)
+    where
+      i : Paired p
+      i = paired-is p h
+
+      j : Paired q
+      j = paired-is q k
+
+      sets : Same (clause-of p) (clause-of q)
+      sets =
+          same-trans (clause-as p a)
+          (subst⁻¹ (λ (c : List ℕ). Same c (clause-of q)) (three-equal e f g) (same-sym (clause-as q d)))
+
+      same-start : startOf row p ≡ startOf row q
+      same-start = first-only row (clause-of q) (first-same row sets (i .clause)) (j .clause)
+
+      same-place : p ≡ q
+      same-place =
+          normal .once (startOf row q) p q
+          (subst (λ (b : ℕ). LiteralAt row b p) same-start (half-literal p h)) (half-literal q k) e
+
+      same-after : (a d : Bool) → other row p a ≡ other row q d → a ≡ d
+      same-after false false r = refl
+      same-after true true r = refl
+      same-after false true r = absurd (differ p i .others (r ∙ ap (λ (u : ℕ). other row u true) (sym same-place)))
+      same-after true false r = absurd (differ p i .others (sym (r ∙ ap (λ (u : ℕ). other row u false) (sym same-place))))

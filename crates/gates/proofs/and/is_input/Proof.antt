@@ -1,0 +1,35 @@
+-- `gates::and::is_input` meets its contract.
+-- Assumes nothing.
+use borrow.Author.Tests.{eq-eqb, ne-eqb}
+use borrow.Author.Needs.{needs}
+use Rattle.gates.proofs.and.is_input.Statement.{statement}
+use Rattle.gates.proofs.and.is_input.Tie as tie
+
+returns : tie.Need-returns
+returns c = rw (eq-eqb _ _ (c .if1 .taken))
+
+inverse-requires : tie.Need-inverse-requires
+inverse-requires c κs = search needs
+
+inverse-requires-2 : tie.Need-inverse-requires-2
+inverse-requires-2 c κs = search needs
+
+slice-aggregate-is-present : tie.Need-slice-aggregate-is-present
+slice-aggregate-is-present c = search needs
+
+is-present-requires : tie.Need-is-present-requires
+is-present-requires c κs = search needs
+
+returns-2 : tie.Need-returns-2
+returns-2 c = rw (ne-eqb _ _ (c .before .before .before .before .if1 .left), ← c .before .before .before .inverse .ensures, ← c .before .before .inverse2 .ensures) (c .is-present .ensures)
+
+pub is-input-spec : {M : Type 1} → statement M
+is-input-spec =
+    tie.close
+    (tie.spec
+    returns
+    inverse-requires
+    inverse-requires-2
+    slice-aggregate-is-present
+    is-present-requires
+    returns-2)

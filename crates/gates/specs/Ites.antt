@@ -1,0 +1,130 @@
+-- The halves of ITEs by their places in a row of codes: which of them make an ITE, and how many ITEs there are; no entry point's contract cites
+-- these.
+-- Assumes nothing.
+use mathlib.Core.Path.{_≡_}
+use mathlib.Core.Bool.{Bool, true, false, not, cond, _&&_}
+use mathlib.Core.List.{List, [], _∷_, map}
+use Prim.Native.Nat.{ℕ, zero, suc, _+_, _*_, _/_, _%_, _≤_, _<_}
+use lib.Dec.{eqb, ltb}
+use lib.ListN.{length, getD}
+use Rattle.clauses.specs.Code.{negate, net}
+use Rattle.clauses.specs.Clause.{clausesIn}
+use Rattle.clauses.specs.Lists.{keep, each}
+use Rattle.clauses.specs.Listing.{present}
+use Rattle.gates.specs.Sign.{isInverse}
+use Rattle.gates.specs.Found.{clauseAt, around}
+use Rattle.gates.specs.Search.{placeOf}
+use Rattle.gates.specs.Mark.{isAt, startOf}
+
+-- Pairs of clauses: (x, y, z) and (x, not y, not z)
+
+-- place p holds a literal of a clause of three literals, and the 0 that ends the clause is in the row
+unfoldable pub inThree : List ℕ → ℕ → Bool
+inThree row p = ltb p (startOf row p + 3) && (ltb (startOf row p + 3) (length row) && eqb (length (clauseAt row (startOf row p))) 3)
+
+-- the other two literals of that clause: the next one, and the one after it
+unfoldable pub other : List ℕ → ℕ → Bool → ℕ
+other row p false = getD row (around (startOf row p) p) 0
+other row p true = getD row (around (startOf row p) (around (startOf row p) p)) 0
+
+-- the clause of place p is the first one with its three literals, and the clause with the other two inverted is present: if the inverse of
+-- the literal at p is true, then the other two are inverses of each other
+unfoldable pub isPaired : List ℕ → ℕ → Bool
+isPaired row p =
+    inThree row p && (present (clausesIn row) (getD row p 0 ∷ negate (other row p false) ∷ negate (other row p true) ∷ [])
+    && isAt (startOf row p) (placeOf row (getD row p 0 ∷ other row p false ∷ other row p true ∷ [])))
+
+-- Halves
+
+-- at a paired place, whose literal's inverse selects: the output is the inverse of the next literal, or of the one after it
+pub record Half : Type 0 where
+  pub place : ℕ
+  pub after : Bool
+
+-- the two at a place
+unfoldable pub halvesAt : ℕ → List Half
+halvesAt p = record { place = p; after = false } ∷ record { place = p; after = true } ∷ []
+
+-- all of them by number: those at place p are numbers 2p and 2p + 1
+abbrev pub half : ℕ → Half
+half j = record { place = j / 2; after = eqb (j % 2) 1 }
+
+-- those of the numbers below k
+unfoldable pub halves : ℕ → List Half
+halves zero = []
+halves (suc j) = half j ∷ halves j
+
+-- those of a row
+unfoldable pub allHalves : List ℕ → List Half
+allHalves row = halves (2 * length row)
+
+-- the output's inverse, and the side
+unfoldable pub output : List ℕ → Half → ℕ
+output row h = other row (h .place) (h .after)
+
+unfoldable pub side : List ℕ → Half → ℕ
+side row h = other row (h .place) (not (h .after))
+
+-- the half has the output whose inverse is y, and a side of another net than z
+unfoldable pub isAcross : List ℕ → ℕ → ℕ → Half → Bool
+isAcross row y z h = eqb (output row h) y && not (eqb (net (side row h)) (net z))
+
+-- .. and it stands at a paired place of literal x
+unfoldable pub isMate : List ℕ → ℕ → ℕ → ℕ → Half → Bool
+isMate row x y z h = isPaired row (h .place) && (eqb (getD row (h .place) 0) x && isAcross row y z h)
+
+-- the halves that make an ITE with a half: the selects are inverses, the output is the same, and the sides are of different nets
+unfoldable pub mates : List ℕ → Half → List Half
+mates row h = keep (isMate row (negate (getD row (h .place) 0)) (output row h) (side row h)) (allHalves row)
+
+-- The marks
+
+-- the half is the side of an ITE
+unfoldable pub isSide : List ℕ → Half → Bool
+isSide row h = isPaired row (h .place) && ltb 0 (length (mates row h))
+
+-- what the sides add to the mark of a place
+unfoldable pub sideMark : List ℕ → ℕ → ℕ
+sideMark row p = cond (isSide row (record { place = p; after = false })) 2 0 + cond (isSide row (record { place = p; after = true })) 4 0
+
+-- the marks with those of the sides added
+pub record Sided (row before after : List ℕ) : Type 0 where
+  pub size : length after ≡ length before
+  pub at : (p : ℕ) → getD after p 0 ≡ getD before p 0 + sideMark row p
+
+-- The count
+
+-- select and output of the half are plain nets
+unfoldable pub isPlainHalf : List ℕ → Half → Bool
+isPlainHalf row h = isPaired row (h .place) && (isInverse (getD row (h .place) 0) && isInverse (output row h))
+
+-- the pairs of halves that make an ITE whose select and output are plain nets
+unfoldable pub pairsOf : List ℕ → List Half → List (Half × Half)
+pairsOf row hs = each (keep (isPlainHalf row) hs) (λ h. map (λ m. (h, m)) (mates row h))
+
+-- Chains of the halves at paired places, by literal and output
+
+-- the last number below k with h of it equal to b, counted from 1; 0 where there is none
+unfoldable pub lastWith : (ℕ → ℕ) → ℕ → ℕ → ℕ
+lastWith h b zero = 0
+lastWith h b (suc k) = cond (eqb (h k) b) (suc k) (lastWith h b k)
+
+-- the bucket, of m, of the halves with literal x and the output whose inverse is y
+unfoldable pub halfBucket : ℕ → ℕ → ℕ → ℕ
+halfBucket m x y = (x * 31 + y) % m
+
+-- of a half at a paired place: its bucket, counted from 1
+unfoldable pub keyOf : ℕ → List ℕ → ℕ → ℕ
+keyOf m row j = cond (isPaired row (half j .place)) (suc (halfBucket m (getD row (half j .place) 0) (output row (half j)))) 0
+
+-- the halves of the numbers below k: for each of the m buckets its last one, and for each half at a paired place, counted from 1 more, the one
+-- before it in its bucket; 0 for the others
+pub record Chained (row : List ℕ) (m k : ℕ) (heads chain : List ℕ) : Type 0 where
+  pub last : (b : ℕ) → b < m → getD heads b 0 ≡ lastWith (keyOf m row) (suc b) k
+  pub before : (j : ℕ) → j < k → isPaired row (half j .place) ≡ true → getD chain j 0 ≡ suc (lastWith (keyOf m row) (keyOf m row j) j)
+  pub unpaired : (j : ℕ) → j < k → isPaired row (half j .place) ≡ false → getD chain j 0 ≡ 0
+
+-- there is room for the chains: a bucket, and an entry for each half
+pub record Room (row : List ℕ) (heads chain : ℕ) : Type 0 where
+  pub some : 0 < heads
+  pub numbers : 2 * length row ≤ chain

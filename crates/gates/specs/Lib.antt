@@ -1,0 +1,11 @@
+pub mod Sign
+pub mod Gate
+pub mod Counted
+pub mod Listing
+pub mod Count
+pub mod Found
+pub mod Search
+pub mod Normal
+pub mod Index
+pub mod Mark
+pub mod Ites

@@ -1,0 +1,24 @@
+-- The search for a clause in a row of codes.
+-- Assumes nothing.
+use mathlib.Core.Bool.{cond}
+use mathlib.Core.List.{List, [], _∷_, List·Memᴰ}
+use Prim.Native.Nat.{ℕ, _+_}
+use lib.ListN.{length}
+use Rattle.clauses.specs.Clause.{clausesIn, Tautology}
+use Rattle.clauses.specs.Listing.{sameSet}
+use Rattle.gates.specs.declared.search.Place.{Place}
+use Rattle.gates.specs.declared.search.Place.the-variants.{At, Nothing}
+
+-- 'The search for a companion clause stops at the first clause that holds the same literals': where it starts, if the first of the clauses
+-- starts at place b and each is ended by a 0
+unfoldable pub placeIn : List ℕ → List (List ℕ) → ℕ → Place
+placeIn q [] b = Nothing
+placeIn q (c ∷ cs) b = cond (sameSet q c) (At b) (placeIn q cs (b + length c + 1))
+
+-- .. in a row of codes
+unfoldable pub placeOf : List ℕ → List ℕ → Place
+placeOf row q = placeIn q (clausesIn row) 0
+
+-- no clause of the row is one that is ignored
+abbrev pub Proper : List ℕ → Type 0
+Proper row = (c : List ℕ) → List·Memᴰ c (clausesIn row) → ¬ Tautology c

@@ -1,0 +1,80 @@
+// The gates of a clause list.
+
+use crate::counts::Counts;
+use crate::fill::clear;
+use crate::ites::mark_ites;
+use crate::mark::mark_clauses;
+use crate::mark::mark_pairs;
+use crate::prepare::prepare;
+ghost use mathlib.Core.Path.{_≡_};
+ghost use mathlib.Core.Logic.{_↔_};
+ghost use mathlib.Core.List.{List, map};
+ghost use Prim.Native.Nat.{ℕ, _-_, _≤_};
+ghost use lib.ListN.{length, getD, take, drop};
+ghost use lib.Seq.{sets};
+ghost use Rattle.clauses.specs.Limit.{maxEntries};
+ghost use Rattle.clauses.specs.Code.{codeOf};
+ghost use Rattle.clauses.specs.Clause.{Present, clausesIn, clausesOf};
+ghost use Rattle.gates.specs.Counted.{AreCounts};
+ghost use Rattle.gates.specs.Found.{Found};
+ghost use Rattle.gates.specs.Normal.{Normal, normalRow, SmallEntries};
+ghost use Rattle.gates.specs.Index.{Indexed};
+ghost use Rattle.gates.specs.Ites.{Room};
+
+// Marks the gates of a row of codes, whatever the marks held, and counts them.
+fn mark_gates(
+    codes: &[u32],
+    index: &[u32],
+    heads: &mut [u32],
+    chain: &mut [u32],
+    marks: &mut [u8],
+) -> Counts
+    requires { ⌜ Indexed (now codes) (now index) ⌝ }
+    requires { ⌜ Normal (now codes) ⌝ }
+    requires { ⌜ Room (now codes) (length (now heads)) (length (now chain)) ⌝ }
+    requires { ⌜ length (now marks) ≡ length (now codes) ⌝ }
+    ensures { λ r. ⌜ ((cs : List (List ℕ)) → ((c : List ℕ) → Present cs c ↔ Present (clausesIn (now (codes .entry))) c)
+        → Found cs (now (codes .entry)) (now (marks .exit)) × AreCounts cs (r .ands) (r .xors) (r .ites)) ⌝ }
+{
+    clear(marks);
+    let none = Counts {
+        ands: 0,
+        xors: 0,
+        ites: 0,
+    };
+    let found = mark_clauses(codes, index, marks, none);
+    let ites = mark_ites(codes, index, heads, chain, marks);
+    mark_pairs(codes, index, marks);
+    found.with_ites(ites)
+}
+
+// What has been found: how many entries the row of codes has, and how many gates there are.
+pub struct Finding {
+    pub entries: usize,
+    pub counts: Counts,
+}
+
+// Writes the normal form of a row at the start of the codes, and the marks of its gates at the start of the marks. Besides what
+// is lent it uses 55,298 numbers of its own, 221,192 bytes.
+pub fn find_gates(row: &[i32], codes: &mut [u32], marks: &mut [u8]) -> Finding
+    requires { ⌜ length (now row) ≤ maxEntries ⌝ }
+    requires { ⌜ length (now row) ≤ length (now codes) ⌝ }
+    requires { ⌜ length (now row) ≤ length (now marks) ⌝ }
+    requires { ⌜ SmallEntries (now row) ⌝ }
+    requires { ⌜ getD (map codeOf (now row)) (length (now row) - 1) 0 ≡ 0 ⌝ }
+    ensures { λ r. ⌜ r .entries ≡ length (normalRow (now (row .entry))) ⌝ }
+    ensures { λ _. ⌜ now (codes .exit) ≡ sets (now (codes .entry)) 0 (normalRow (now (row .entry))) ⌝ }
+    ensures { λ _. ⌜ Found (clausesOf (now (row .entry))) (normalRow (now (row .entry))) (take (length (normalRow (now (row .entry)))) (now (marks .exit))) ⌝ }
+    ensures { λ _. ⌜ drop (length (normalRow (now (row .entry)))) (now (marks .exit)) ≡ drop (length (normalRow (now (row .entry)))) (now (marks .entry)) ⌝ }
+    ensures { λ r. ⌜ AreCounts (clausesOf (now (row .entry))) (r .counts .ands) (r .counts .xors) (r .counts .ites) ⌝ }
+{
+    let mut index = [0u32; 20480];
+    let mut heads = [0u32; 2050];
+    let mut chain = [0u32; 32768];
+    let n = prepare(row, codes, &mut index, &mut heads);
+    let counts = mark_gates(&codes[..n], &index, &mut heads, &mut chain, &mut marks[..n]);
+    Finding {
+        entries: n,
+        counts: counts,
+    }
+}

@@ -1,0 +1,86 @@
+// The clause index of a row of codes.
+
+use crate::fill::fill;
+use crate::search::is_among;
+ghost use mathlib.Core.Path.{_≡_};
+ghost use Prim.Native.Nat.{_+_, _<_, _≤_};
+ghost use lib.ListN.{length};
+ghost use Rattle.gates.specs.Found.{clauseAt, Starts};
+ghost use Rattle.gates.specs.Normal.{Normal};
+ghost use Rattle.gates.specs.Index.{share, buckets, bucketOf, isStart, Indexed};
+
+// The number of buckets (specs/Index.antt).
+pub const BUCKETS: usize = 4096;
+
+// What a literal adds to the sum of its clause.
+fn share(x: u32) -> usize
+    ensures { λ r. ⌜ r ≡ share x ⌝ }
+{
+    ((x % 65536) * 40503 % 65537) as usize
+}
+
+// The bucket of a clause that is given by its literals.
+pub fn bucket_of(q: &[u32]) -> usize
+    ensures { λ r. ⌜ r ≡ bucketOf (now (q .entry)) ⌝ }
+{
+    let mut s = 0;
+    let mut i = 0;
+    while i < q.len() {
+        let x = q[i];
+        i += 1;
+        if !is_among(q, i, x) {
+            s = (s + share(x)) % BUCKETS;
+        }
+    }
+    s
+}
+
+// The bucket of the clause at b.
+fn bucket_at(codes: &[u32], b: usize) -> usize
+    requires { ⌜ Normal (now codes) ⌝ }
+    requires { ⌜ Starts (now codes) b ⌝ }
+    ensures { λ r. ⌜ r ≡ bucketOf (clauseAt (now (codes .entry)) b) ⌝ }
+{
+    let mut s = 0;
+    let mut i = b;
+    while i < codes.len() {
+        let x = codes[i];
+        if x == 0 {
+            return s;
+        }
+        s = (s + share(x)) % BUCKETS;
+        i += 1;
+    }
+    s
+}
+
+// Whether a clause starts at b.
+pub fn is_start(codes: &[u32], b: usize) -> bool
+    requires { ⌜ b < length (now codes) ⌝ }
+    ensures { λ r. ⌜ r ≡ isStart (now (codes .entry)) b ⌝ }
+{
+    if b == 0 {
+        return true;
+    }
+    codes[b - 1] == 0
+}
+
+// Makes the index of a row of codes, from its last clause to its first.
+pub fn make_index(codes: &[u32], index: &mut [u32])
+    requires { ⌜ Normal (now codes) ⌝ }
+    requires { ⌜ buckets + length (now codes) ≤ length (now index) ⌝ }
+    ensures { λ _. ⌜ Indexed (now (codes .entry)) (now (index .exit)) ⌝ }
+{
+    let n = codes.len();
+    let end = n as u32;
+    fill(index, end);
+    let mut b = n;
+    while 0 < b {
+        b -= 1;
+        if is_start(codes, b) {
+            let h = bucket_at(codes, b);
+            index[BUCKETS + b] = index[h];
+            index[h] = b as u32;
+        }
+    }
+}

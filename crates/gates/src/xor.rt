@@ -1,0 +1,159 @@
+// The XORs, each by one of its clauses.
+
+ghost use mathlib.Core.Path.{_≡_};
+ghost use mathlib.Core.Bool.{false, not, _||_};
+ghost use Prim.Native.Nat.{_≤_, _^_};
+ghost use lib.ListN.{length, take};
+ghost use Rattle.clauses.specs.Clause.{clausesIn};
+ghost use Rattle.clauses.specs.Lists.{all};
+ghost use Rattle.clauses.specs.Listing.{present};
+ghost use Rattle.gates.specs.Sign.{plus, flip, isInverse};
+ghost use Rattle.gates.specs.Listing.{signed};
+ghost use Rattle.gates.specs.Found.{clauseAt};
+ghost use Rattle.gates.specs.Index.{Indexed};
+ghost use Rattle.gates.specs.Mark.{Spans, isLowest, isUpright, masked, maskOdd, givesXor};
+ghost use Rattle.gates.specs.Search.{Proper};
+use crate::literal::inverse;
+use crate::search::is_present;
+
+// Whether no net of the clause is lower than x's.
+fn is_lowest(clause: &[u32], x: u32) -> bool
+    ensures { λ r. ⌜ r ≡ isLowest (now (clause .entry)) x ⌝ }
+{
+    let mut i = 0;
+    while i < clause.len() {
+        if clause[i] / 2 < x / 2 {
+            return false;
+        }
+        i += 1;
+    }
+    true
+}
+
+// Whether x is plain or of the clause's lowest net.
+fn is_upright_at(clause: &[u32], x: u32) -> bool
+    ensures { λ r. ⌜ r ≡ (not (isInverse x) || isLowest (now (clause .entry)) x) ⌝ }
+{
+    if x % 2 == 1 {
+        return is_lowest(clause, x);
+    }
+    true
+}
+
+// Whether at most the lowest net is inverse.
+fn is_upright(clause: &[u32]) -> bool
+    ensures { λ r. ⌜ r ≡ isUpright (now (clause .entry)) ⌝ }
+{
+    let mut i = 0;
+    while i < clause.len() {
+        if !is_upright_at(clause, clause[i]) {
+            return false;
+        }
+        i += 1;
+    }
+    true
+}
+
+// The literal, inverted if the mask's lowest bit is set.
+fn turned(x: u32, mask: u32) -> u32
+    ensures { λ r. ⌜ r ≡ flip (isInverse mask) x ⌝ }
+{
+    if mask % 2 == 1 { inverse(x) } else { x }
+}
+
+// Whether an odd number is inverted with this bit too.
+fn is_odd_with(odd: bool, mask: u32) -> bool
+    ensures { λ r. ⌜ r ≡ plus odd (isInverse mask) ⌝ }
+{
+    if mask % 2 == 1 { !odd } else { odd }
+}
+
+// Writes the clause with the signs changed that the mask has; answers whether these are an odd number.
+fn put_masked(clause: &[u32], mask: u32, q: &mut [u32]) -> bool
+    requires { ⌜ length (now clause) ≤ length (now q) ⌝ }
+    ensures { λ r. ⌜ r ≡ maskOdd mask (now (clause .entry)) ⌝ }
+    ensures { λ _. ⌜ take (length (now (clause .entry))) (now (q .exit)) ≡ masked mask (now (clause .entry)) ⌝ }
+{
+    let mut m = mask;
+    let mut odd = false;
+    let mut i = 0;
+    while i < clause.len() {
+        q[i] = turned(clause[i], m);
+        odd = is_odd_with(odd, m);
+        m = m / 2;
+        i += 1;
+    }
+    odd
+}
+
+// Whether the clause with the signs changed that the mask has is present, if these are an even number.
+fn is_mask_present(codes: &[u32], index: &[u32], clause: &[u32], mask: u32) -> bool
+    requires { ⌜ Indexed (now codes) (now index) ⌝ }
+    requires { ⌜ Proper (now codes) ⌝ }
+    requires { ⌜ length (now clause) ≤ 5 ⌝ }
+    ensures { λ r. ⌜ r ≡ (maskOdd mask (now (clause .entry)) || present (clausesIn (now (codes .entry))) (masked mask (now (clause .entry)))) ⌝ }
+{
+    let n = clause.len();
+    let mut q = [0u32; 5];
+    if put_masked(clause, mask, &mut q) {
+        return true;
+    }
+    is_present(codes, index, &q[..n])
+}
+
+// How many masks there are for n literals.
+fn mask_count(n: usize) -> u32
+    requires { ⌜ n ≤ 5 ⌝ }
+    ensures { λ r. ⌜ r ≡ 2 ^ n ⌝ }
+{
+    let mut m: u32 = 1;
+    let mut i = 0;
+    while i < n {
+        m = m * 2;
+        i += 1;
+    }
+    m
+}
+
+// Whether the clause is present with any even number of its signs changed.
+fn is_every_mask_present(codes: &[u32], index: &[u32], clause: &[u32]) -> bool
+    requires { ⌜ Indexed (now codes) (now index) ⌝ }
+    requires { ⌜ Proper (now codes) ⌝ }
+    requires { ⌜ length (now clause) ≤ 5 ⌝ }
+    ensures { λ r. ⌜ r ≡ all (present (clausesIn (now (codes .entry)))) (signed (now (clause .entry)) false) ⌝ }
+{
+    let top = mask_count(clause.len());
+    let mut m = 0;
+    while m < top {
+        if !is_mask_present(codes, index, clause, m) {
+            return false;
+        }
+        m += 1;
+    }
+    true
+}
+
+// Whether the clause stands for an XOR, if it has three literals or more.
+fn gives_xor(codes: &[u32], index: &[u32], clause: &[u32]) -> bool
+    requires { ⌜ Indexed (now codes) (now index) ⌝ }
+    requires { ⌜ Proper (now codes) ⌝ }
+    ensures { λ r. ⌜ r ≡ givesXor (clausesIn (now (codes .entry))) (now (clause .entry)) ⌝ }
+{
+    if 5 < clause.len() {
+        return false;
+    }
+    if !is_upright(clause) {
+        return false;
+    }
+    is_every_mask_present(codes, index, clause)
+}
+
+// .. for the clause from b to end.
+pub fn is_xor(codes: &[u32], index: &[u32], b: usize, end: usize) -> bool
+    requires { ⌜ Indexed (now codes) (now index) ⌝ }
+    requires { ⌜ Proper (now codes) ⌝ }
+    requires { ⌜ Spans (now codes) b end ⌝ }
+    ensures { λ r. ⌜ r ≡ givesXor (clausesIn (now (codes .entry))) (clauseAt (now (codes .entry)) b) ⌝ }
+{
+    gives_xor(codes, index, &codes[b..end])
+}
