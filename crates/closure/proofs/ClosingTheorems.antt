@@ -1,0 +1,148 @@
+-- The theorems about what closing answers, for every list that it accepts, whatever the lead and work rows held.
+-- Assumes nothing.
+use mathlib.Core.Path.{_≡_, refl, sym, _∙_, ap, subst⁻¹}
+use mathlib.Core.Logic.{_≢_, _↔_}
+use mathlib.Core.Bool.{Bool}
+use mathlib.Core.List.{List, [], _∷_, List·Memᴰ, List·Memᴰ·head, List·Memᴰ·tail}
+use Prim.Native.Nat.{ℕ, suc, _*_, _≤_, _<_}
+use native.Mathlib.Omega.{arith}
+use lib.IntN.{ℤ}
+use lib.ListN.{length, getD, take, drop, length-replicate}
+use lib.Seq.{take-at}
+use Rattle.clauses.specs.Clause.{clausesOf}
+use Rattle.clauses.specs.Listing.{Fits}
+use Rattle.clauses.specs.Refusal.{numberOf, Test, entryTooLarge, notEnded, clauseCount}
+use Rattle.clauses.specs.Renaming.{Renames, Images}
+use Rattle.clauses.specs.declared.refusal.Refusal.{Refusal}
+use Rattle.clauses.specs.declared.refusal.Refusal.the-variants.{TooManyRounds}
+use Rattle.clauses.proofs.Deciding.{NoneHolds, decide-has}
+use Rattle.closure.specs.declared.Verdict.{Verdict}
+use Rattle.closure.specs.declared.Verdict.the-variants.{Contradiction, Settled}
+use Rattle.closure.specs.declared.close.Summary.{Summary}
+use Rattle.closure.specs.declared.close.Closing.the-variants.{Accepted, Refused}
+use Rattle.closure.specs.Grouping.{After}
+use Rattle.closure.specs.Answer.{Answer, Leads, on-contradiction, otherwise, noLead, IsAnswer, Joined}
+use Rattle.closure.specs.Assignment.{Assignment, Satisfies}
+use Rattle.closure.specs.Renaming.{Renamed}
+use Rattle.closure.specs.Compute.{answer}
+use Rattle.closure.specs.Closing.{Outcome, refused, summary, accepted, closeRounds, closing, Answers}
+use Rattle.closure.proofs.Theorems.{answer-exact, answer-joined, answer-true, contradiction-true, settled-bound, rounds-bound, demand-three}
+use Rattle.closure.proofs.ClosingTests.{tests, none-holds-fits, rounds-accepted, accepted-fits, accepted-outcome}
+
+leads-length : {v : ℕ} {G : ℕ → ℕ → Type 0} {w : Verdict} {g : ℕ} {l : List ℕ} → Leads v G w g l → length l ≡ v
+leads-length {v} on-contradiction = length-replicate v noLead
+leads-length (otherwise d s f) = s
+
+accepted-same : {s t : Summary} → Accepted s ≡ Accepted t → s ≡ t
+accepted-same e = cc
+
+-- an accepted list has an answer
+pub accepted-answers : (v c : ℕ) (row : List ℤ) (limit : ℕ) (leads work : List ℕ) (s : Summary) → closing v c row limit leads work .result ≡ Accepted s
+    → (a : Answer) × Answers v c row limit leads work a
+accepted-answers v c row limit leads work s h = (
+  record {
+    verdict = s .verdict;
+    rounds = s .rounds;
+    ands = s .ands;
+    xors = s .xors;
+    ites = s .ites;
+    groups = s .groups;
+    leads = take v (closing v c row limit leads work .leads);
+  },
+  record { accepts = h; hands-over = refl },
+)
+
+module _ (v c : ℕ) (row : List ℤ) (limit : ℕ) (leads work : List ℕ) (a : Answer) (h : Answers v c row limit leads work a) where
+  abbrev cs : List (List ℕ)
+  cs = clausesOf row
+
+  fit : Fits v cs
+  fit = accepted-fits v c row limit leads work (summary a) (h .accepts)
+
+  -- and it is the computed one
+  pub answers-is : a ≡ answer v cs limit
+  unfolding accepted
+  answers-is =
+      λ i. record {
+        verdict = same i .verdict;
+        rounds = same i .rounds;
+        ands = same i .ands;
+        xors = same i .xors;
+        ites = same i .ites;
+        groups = same i .groups;
+        leads = rows i;
+      }
+    where
+      b : Answer
+      b = answer v cs limit
+
+      out : closing v c row limit leads work ≡ accepted v leads work b
+      out = accepted-outcome v c row limit leads work (summary a) (h .accepts)
+
+      same : summary a ≡ summary b
+      same = accepted-same (sym (h .accepts) ∙ ap (λ (o : Outcome). o .result) out)
+
+      rows : a .leads ≡ b .leads
+      rows =
+          sym (h .hands-over) ∙ ap (λ (o : Outcome). take v (o .leads)) out
+          ∙ take-at (b .leads) (drop v leads) v (leads-length (answer-exact v cs fit limit .leads))
+
+  -- Exactness: verdict, rounds, counts, groups and leads are what the gates and the groupings of the rules leave.
+  pub closing-exact : IsAnswer v cs limit a
+  closing-exact = subst⁻¹ (IsAnswer v cs limit) answers-is (answer-exact v cs fit limit)
+
+  -- The leads join two literals or constants exactly when the grouping after the answer's rounds does: none missing, none added.
+  pub closing-joined : (x y : ℕ) → Joined a x y ↔ After cs (a .rounds) x y
+  closing-joined x y = subst⁻¹ (λ (b : Answer). Joined b x y ↔ After cs (b .rounds) x y) answers-is (answer-joined v cs fit limit x y)
+
+  -- Truth: every assignment that satisfies all clauses gives each net its lead's value.
+  pub closing-true : (value : ℕ → Bool) → Assignment value → Satisfies value cs → (i : ℕ) → i < v → value (2 * suc i) ≡ value (getD (a .leads) i 0)
+  closing-true value asg sat i k = subst⁻¹ (λ (b : Answer). value (2 * suc i) ≡ value (getD (b .leads) i 0)) answers-is (answer-true v cs fit limit value asg sat i k)
+
+  -- and there is a contradiction only if no assignment satisfies the list.
+  pub closing-contradiction : a .verdict ≡ Contradiction → (value : ℕ → Bool) → Assignment value → ¬ Satisfies value cs
+  closing-contradiction e = contradiction-true v cs fit limit (ap (λ (b : Answer). b .verdict) (sym answers-is) ∙ e)
+
+  -- Bounds: a settled list takes at most V rounds, a contradiction at most V + 1.
+  pub closing-settled : a .verdict ≡ Settled → a .rounds ≤ v
+  closing-settled e = subst⁻¹ (λ (b : Answer). b .rounds ≤ v) answers-is (settled-bound v cs fit limit (ap (λ (b : Answer). b .verdict) (sym answers-is) ∙ e))
+
+  pub closing-bound : a .rounds ≤ suc v
+  closing-bound = subst⁻¹ (λ (b : Answer). b .rounds ≤ suc v) answers-is (rounds-bound v cs fit limit)
+
+-- Demand 3: two lists that closing accepts, the clauses of one being the images of the other's under one renaming, have answers that differ by
+-- the renaming alone.
+pub closing-renamed : (v c d limit : ℕ) (row sow : List ℤ) (leads work leads′ work′ : List ℕ) (a b : Answer) (ρ : ℕ → ℕ)
+    → Answers v c row limit leads work a → Answers v d sow limit leads′ work′ b → Renames v ρ → Images ρ (clausesOf row) (clausesOf sow)
+    → Renamed v ρ a b
+closing-renamed v c d limit row sow leads work leads′ work′ a b ρ h k ren images =
+    rw (answers-is v c row limit leads work a h, answers-is v d sow limit leads′ work′ b k)
+    (demand-three v limit (clausesOf row) (clausesOf sow) ρ (fit v c row limit leads work a h) (fit v d sow limit leads′ work′ b k) ren images)
+
+-- Refusal 14 is never given.
+pub never-fourteen : (v c : ℕ) (row : List ℤ) (limit : ℕ) (leads work : List ℕ) → closing v c row limit leads work .result ≢ Refused TooManyRounds
+unfolding closing refused accepted
+never-fourteen v c row limit leads work =
+    decide-has (refused leads work) (closeRounds v row limit leads work) Other (tests v c row limit leads work) (λ t k e. early (t .refusal) (below t k) e) late
+  where
+    Other : Outcome → Type 0
+    Other o = o .result ≢ Refused TooManyRounds
+
+    early : (r : Refusal) → numberOf r ≤ 12 → Refused r ≡ Refused TooManyRounds → ⊥
+    early r h e = let same : r ≡ TooManyRounds = cc in omega (arith, ap numberOf same)
+
+    below : (t : Test) → List·Memᴰ t (tests v c row limit leads work) → numberOf (t .refusal) ≤ 12
+    below t (List·Memᴰ·head e) = rw e (omega arith)
+    below t (List·Memᴰ·tail (List·Memᴰ·head e)) = rw e (omega arith)
+    below t (List·Memᴰ·tail (List·Memᴰ·tail (List·Memᴰ·head e))) = rw e (omega arith)
+    below t (List·Memᴰ·tail (List·Memᴰ·tail (List·Memᴰ·tail (List·Memᴰ·head e)))) = rw e (omega arith)
+    below t (List·Memᴰ·tail (List·Memᴰ·tail (List·Memᴰ·tail (List·Memᴰ·tail (List·Memᴰ·head e))))) = rw e (omega arith)
+    below t (List·Memᴰ·tail (List·Memᴰ·tail (List·Memᴰ·tail (List·Memᴰ·tail (List·Memᴰ·tail k))))) = entries t k
+      where
+        entries : (t : Test) → List·Memᴰ t (entryTooLarge v row ∷ notEnded row ∷ clauseCount c row ∷ []) → numberOf (t .refusal) ≤ 12
+        entries t (List·Memᴰ·head e) = rw e (omega arith)
+        entries t (List·Memᴰ·tail (List·Memᴰ·head e)) = rw e (omega arith)
+        entries t (List·Memᴰ·tail (List·Memᴰ·tail (List·Memᴰ·head e))) = rw e (omega arith)
+
+    late : NoneHolds (tests v c row limit leads work) → Other (closeRounds v row limit leads work)
+    late n = rw (rounds-accepted v row limit leads work (none-holds-fits v c row limit leads work n)) (λ e. let z : _≡_ {A = ℕ} 0 1 = cc in omega arith)

@@ -1,0 +1,159 @@
+-- What the finder and the rounds leave is the answer, and closing accepts.
+-- Assumes nothing.
+use mathlib.Core.Path.{_≡_, refl, sym, _∙_, ap, subst, subst⁻¹}
+use mathlib.Core.Logic.{_↔_, eq-equivalence}
+use mathlib.Core.Bool.{true}
+use mathlib.Core.List.{List, [], _∷_, _++_, map}
+use Prim.Native.Nat.{ℕ, zero, suc, _+_, _-_, _≤_}
+use native.Mathlib.Omega.{arith}
+use native.Mathlib.Nat.{le-trans}
+use lib.IntN.{ℤ, pos, negsuc, natAbs}
+use lib.ListN.{length, getD, take, drop, replicate}
+use lib.Seq.{sets}
+use borrow.Author.Tests.{ltb-false, eqb-true, not-false}
+use Rattle.clauses.specs.Limit.{maxNets}
+use Rattle.clauses.specs.Refusal.{firstOver, isEnded, entryTooLarge, notEnded, clauseCount}
+use Rattle.clauses.specs.Tally.{tallyOf}
+use Rattle.clauses.specs.Check.{checkEntries}
+use Rattle.clauses.specs.declared.checks.Check.{Check}
+use Rattle.clauses.specs.declared.checks.Check.the-variants as K
+use Rattle.clauses.specs.Code.{codeOf}
+use Rattle.clauses.specs.Clause.{clausesIn, clausesOf, Present}
+use Rattle.clauses.proofs.Deciding.{decide-none-holds}
+use Rattle.clauses.proofs.Fitting.{entries-fit}
+use Rattle.clauses.proofs.PrintedText.{within-head, within-tail}
+use Rattle.clauses.specs.Listing.{Fits}
+use Rattle.gates.specs.Counted.{AreCounts}
+use Rattle.gates.specs.Found.{Found}
+use Rattle.gates.specs.Normal.{normalRow, SmallEntries}
+use Rattle.gates.proofs.NormalForm.{firsts-same, normal-has, normal-clauses, normal-present, normal-length, normal-part}
+use Rattle.gates.proofs.Counting.{same-with, counted-once}
+use Rattle.gates.proofs.Counted.{ands-counted, xors-counted, ites-counted}
+use Rattle.closure.specs.declared.Verdict.{Verdict}
+use Rattle.closure.specs.declared.close.Closing.the-variants.{Accepted}
+use Rattle.closure.specs.Answer.{Answer, own}
+use Rattle.closure.specs.Compute.{ended, closed, tally, answer}
+use Rattle.closure.specs.Closing.{maxWork, summary, accepted, closeRounds}
+use Rattle.closure.specs.Passed.{Passed, ClosedTo}
+use Rattle.closure.proofs.SameLists.{closed-same}
+use Rattle.closure.proofs.SameGates.{found-same}
+use Rattle.closure.proofs.ClosingTests.{never-too-many, rounds-accepted}
+
+module _ (v : ℕ) (row : List ℤ) (limit : ℕ) (leads work : List ℕ) (fit : Fits v (clausesOf row)) (ds : List (List ℕ)) (fit′ : Fits v ds)
+    (same : (c : List ℕ) → Present ds c ↔ Present (clausesOf row) c) (a x i : ℕ) (counts : AreCounts (clausesOf row) a x i)
+    (w : Verdict) (n g : ℕ) (l : List ℕ) (done : ended w n l ≡ closed v ds limit) (left : g ≡ length (own v l)) where
+  abbrev cs : List (List ℕ)
+  cs = clausesOf row
+
+  abbrev found : Answer
+  found = record { verdict = w; rounds = n; ands = a; xors = x; ites = i; groups = g; leads = l }
+
+  found-answer : found ≡ answer v cs limit
+  unfolding answer tally
+  found-answer = counted ∙ ap (tally v cs) (done ∙ closed-same v ds cs same fit′ fit limit)
+    where
+      counted : found ≡ tally v cs (ended w n l)
+      counted =
+          λ k. record {
+            verdict = w;
+            rounds = n;
+            ands = counted-once same-with (counts .and-count) (ands-counted cs) k;
+            xors = counted-once same-with (counts .xor-count) (xors-counted v cs fit) k;
+            ites = counted-once eq-equivalence (counts .ite-count) (ites-counted v cs fit) k;
+            groups = left k;
+            leads = l;
+          }
+
+  -- test 14 does not hold
+  found-bound : n ≤ v + 1
+  found-bound = subst (λ (b : Answer). b .rounds ≤ v + 1) (sym found-answer) (never-too-many v row limit leads work fit)
+
+  found-accepted : (leads′ work′ : List ℕ) → leads′ ≡ l ++ drop v leads → work′ ≡ replicate maxWork 0 ++ drop maxWork work
+      → record { result = Accepted (summary found); leads = leads′; work = work′ } ≡ closeRounds v row limit leads work
+  unfolding accepted
+  found-accepted leads′ work′ p q =
+      rows ∙ ap (accepted v leads work) found-answer ∙ sym (rounds-accepted v row limit leads work fit)
+    where
+      rows : record { result = Accepted (summary found); leads = leads′; work = work′ } ≡ accepted v leads work found
+      rows = rw (p, q)
+
+-- By the steps of closing
+
+small-entries : (v : ℕ) (row : List ℤ) → length row ≤ firstOver v row → v ≤ maxNets → (i : ℕ) → natAbs (getD row i (pos 0)) ≤ maxNets
+small-entries v [] h k i = omega arith
+small-entries v (z ∷ row) h k zero = le-trans (within-head v z row h) k
+small-entries v (z ∷ row) h k (suc i) = small-entries v row (within-tail v z row h) k i
+
+zero-code : (z : ℤ) → natAbs z ≡ 0 → codeOf z ≡ 0
+unfolding codeOf
+zero-code (pos n) e = omega arith
+zero-code (negsuc n) e = absurd (omega arith)
+
+ended-zero : (row : List ℤ) → isEnded row ≡ true → getD (map codeOf row) (length row - 1) 0 ≡ 0
+unfolding isEnded
+ended-zero [] e = refl
+ended-zero (z ∷ []) e = zero-code z (eqb-true (natAbs z) 0 e)
+ended-zero (z ∷ y ∷ row) e =
+    let h : length (z ∷ y ∷ row) - 1 ≡ suc (length (y ∷ row) - 1) = omega arith in
+    rw h (ended-zero (y ∷ row) e)
+
+-- what the finder asks of a row
+pub passed-findable : (v : ℕ) (row : List ℤ) (leads work : List ℕ) → Passed v row leads work
+    → SmallEntries row × (getD (map codeOf row) (length row - 1) 0 ≡ 0)
+passed-findable v row leads work p = (small-entries v row (p .within) (p .nets), ended-zero row (p .ended))
+
+-- tests 10 to 12 pass
+pub entries-upright : (v c : ℕ) (row : List ℤ) → checkEntries c (tallyOf v row) ≡ K.Passed → (length row ≤ firstOver v row) × (isEnded row ≡ true)
+unfolding checkEntries tallyOf
+entries-upright v c row h =
+    let n = decide-none-holds K.Refused K.Passed (λ (k : Check). k ≡ K.Passed) (λ r e. let z : _≡_ {A = ℕ} 0 1 = cc in omega arith)
+    (entryTooLarge v row ∷ notEnded row ∷ clauseCount c row ∷ []) h in
+    (ltb-false _ _ (n .0), not-false (isEnded row) (n .1 .0))
+
+-- what the finder has left at the start of two rows
+pub record Left (v : ℕ) (row : List ℤ) (codes marks : List ℕ) (n : ℕ) : Type 0 where
+  pub few : n ≤ length row
+  pub found : Found (clausesIn (take n codes)) (take n codes) (take n marks)
+  pub same : (c : List ℕ) → Present (clausesIn (take n codes)) c ↔ Present (clausesOf row) c
+  pub fits : Fits v (clausesIn (take n codes))
+
+pub finder-left : (v : ℕ) (row : List ℤ) (leads work : List ℕ) → Passed v row leads work → (codes₀ codes marks : List ℕ) (n : ℕ) → length row ≤ length codes₀
+    → n ≡ length (normalRow row) → codes ≡ sets codes₀ 0 (normalRow row) → Found (clausesOf row) (normalRow row) (take (length (normalRow row)) marks)
+    → Left v row codes marks n
+finder-left v row leads work p codes₀ codes marks n room en ec f =
+    record {
+      few = subst⁻¹ (λ (k : ℕ). k ≤ length row) en (normal-length row ends);
+      found =
+          subst⁻¹ (λ (r : List ℕ). Found (clausesIn r) r (take n marks)) part
+          (found-same (clausesOf row) (clausesIn N) (normal-present row) (subst⁻¹ (λ (k : ℕ). Found (clausesOf row) N (take k marks)) en f));
+      same = subst⁻¹ (λ (r : List ℕ). (c : List ℕ) → Present (clausesIn r) c ↔ Present (clausesOf row) c) part (λ c. (normal-present row c .1, normal-present row c .0));
+      fits = subst⁻¹ (λ (r : List ℕ). Fits v (clausesIn r)) part fits;
+    }
+  where
+    N : List ℕ
+    N = normalRow row
+
+    ends : getD (map codeOf row) (length row - 1) 0 ≡ 0
+    ends = ended-zero row (p .ended)
+
+    part : take n codes ≡ N
+    part = rw (en, ec) (normal-part row ends codes₀ room)
+
+    fits : Fits v (clausesIn N)
+    fits c k x m =
+        let o = normal-has (clausesOf row) c (rw (normal-clauses row) at k) in
+        entries-fit v row (p .within) (o .of) (o .listed) x (firsts-same (o .of) .left x (rw (o .is) at m))
+
+module _ (v : ℕ) (row : List ℤ) (limit : ℕ) (leads work : List ℕ) (p : Passed v row leads work)
+    (codes marks : List ℕ) (m a x i : ℕ) (q : Left v row codes marks m) (counts : AreCounts (clausesOf row) a x i)
+    (leads′ : List ℕ) (w : Verdict) (n g : ℕ) (r : ClosedTo v (clausesIn (take m codes)) limit leads leads′ w n g) where
+  pub steps-bound : n ≤ v + 1
+  steps-bound =
+      found-bound v row limit leads work (entries-fit v row (p .within)) (clausesIn (take m codes)) (q .fits) (q .same) a x i counts w n g (r .last) (r .ends) (r .left)
+
+  pub steps-accepted : (zeros : List ℕ) → zeros ≡ replicate maxWork 0
+      → record { result = Accepted (record { verdict = w; rounds = n; ands = a; xors = x; ites = i; groups = g }); leads = leads′; work = zeros ++ drop maxWork work }
+      ≡ closeRounds v row limit leads work
+  steps-accepted zeros e =
+      found-accepted v row limit leads work (entries-fit v row (p .within)) (clausesIn (take m codes)) (q .fits) (q .same) a x i counts w n g (r .last) (r .ends) (r .left)
+      leads′ (zeros ++ drop maxWork work) (r .row) (ap (λ (l : List ℕ). l ++ drop maxWork work) e)

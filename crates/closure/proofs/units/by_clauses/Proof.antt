@@ -1,0 +1,76 @@
+-- `closure::units::by_clauses` meets its contract.
+-- Assumes nothing.
+use mathlib.Core.Logic.{⊎-elim}
+use borrow.Author.Needs.{needs}
+use Prim.Native.Nat.{_-_}
+use lib.ListN.{length}
+use native.Mathlib.Omega.{arith}
+use Rattle.clauses.specs.Clause.{clausesIn}
+use Rattle.gates.proofs.Walking.{Walk, walk-first, walk-on, walk-end, walk-behind, walk-done}
+use Rattle.closure.specs.Passing.{Stepped}
+use Rattle.closure.proofs.Clauses.{ClausesDone, clause-done, rule1, rule2}
+use Rattle.closure.proofs.units.by_clauses.Statement.{statement}
+use Rattle.closure.proofs.units.by_clauses.Tie as tie
+
+abbrev Inv-loop : tie.InvT-loop
+Inv-loop codes marks old new₀ t₀ b₀ p₀ new t b p = Walk codes b p × Stepped (clausesIn codes) old new₀ t₀ new t (ClausesDone codes marks old new t b)
+
+abbrev μ-loop : tie.MeasureT-loop
+μ-loop codes marks old new₀ t₀ b₀ p₀ new t b p = length codes - p
+
+loop-holds : tie.Need-loop-holds Inv-loop μ-loop
+loop-holds c = (walk-first _, record { making = c .before .before .before .before .pre .1 .1 .1; later = λ a b j. j; joined = λ a s h. absurd (omega arith) })
+
+mul-if1 : tie.Need-mul-if1 Inv-loop μ-loop
+mul-if1 c = search needs
+
+shared-slice-read-if1 : tie.Need-shared-slice-read-if1 Inv-loop μ-loop
+shared-slice-read-if1 c = search needs
+
+by-clause-requires : tie.Need-by-clause-requires Inv-loop μ-loop
+by-clause-requires c κs = let w = c .before .before .before .before .loop .inv .0 in
+    let h = c .before .before .before .loop-test .taken in
+    (c .before .before .before .before .before .before .before .before .before .pre .0, ((w .start (omega (arith, w .low)), walk-end _ _ _ w h (c .before .if1 .taken)), (c .before .before .before .before .before .before .before .before .before .pre .1 .0, (c .before .before .before .before .before .before .before .before .before .pre .1 .1 .0, c .before .before .before .before .loop .inv .1 .making))))
+
+add-b : tie.Need-add-b Inv-loop μ-loop
+add-b c = search needs
+
+add-p : tie.Need-add-p Inv-loop μ-loop
+add-p c = search needs
+
+loop-less : tie.Need-loop-less Inv-loop μ-loop
+loop-less c = search needs
+
+loop-again : tie.Need-loop-again Inv-loop μ-loop
+loop-again c = let inv = c .before .before .before .loop .inv in
+    let h = c .before .before .loop-test .taken in
+    ⊎-elim
+    (λ w. rw (w .5, w .6, w .7) (walk-behind _ _ _ (inv .0) h (w .0 .taken), clause-done (c .before .before .before .before .before .before .before .before .pre .0) _ _ (inv .0) h (w .0 .taken) (inv .1) (w .2 .ensures)))
+    (λ w. rw (w .1, w .2, w .3) (walk-on _ _ _ (inv .0) h (w .0 .left), inv .1))
+    (c .if1 .came)
+
+same-length : tie.Need-same-length Inv-loop μ-loop
+same-length c = search needs
+
+returns : tie.Need-returns Inv-loop μ-loop
+returns c = let inv = c .before .loop .inv in
+    let found = c .before .before .before .before .before .before .pre .0 in
+    let end = walk-done _ _ _ (inv .0) (c .loop-test .left) (found .ended) in
+    (inv .1 .making, (inv .1 .later, (rule1 found (inv .1 .making) _ end (inv .1 .joined), rule2 found (inv .1 .making) _ end (inv .1 .joined))))
+
+pub by-clauses-spec : {M : Type 1} → statement M
+by-clauses-spec =
+    tie.close
+    (tie.spec
+    Inv-loop
+    μ-loop
+    loop-holds
+    mul-if1
+    shared-slice-read-if1
+    by-clause-requires
+    add-b
+    add-p
+    loop-less
+    loop-again
+    same-length
+    returns)

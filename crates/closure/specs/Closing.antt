@@ -1,0 +1,73 @@
+-- What closing answers to a clause list, and what the lent rows then hold.
+-- Assumes nothing.
+use mathlib.Core.Path.{_≡_}
+use mathlib.Core.List.{List, [], _∷_, _++_}
+use Prim.Native.Nat.{ℕ, _+_}
+use lib.Dec.{ltb}
+use lib.IntN.{ℤ}
+use lib.ListN.{length, take, drop, replicate}
+use Rattle.clauses.specs.Clause.{clausesOf}
+use Rattle.clauses.specs.Refusal.{Test, decide, tooManyNets, tooManyClauses, tooManyEntries, entryTooLarge, notEnded, clauseCount}
+use Rattle.clauses.specs.declared.refusal.Refusal.{Refusal}
+use Rattle.clauses.specs.declared.refusal.Refusal.the-variants.{LeadsTooShort, WorkTooShort, TooManyRounds}
+use Rattle.closure.specs.Answer.{Answer}
+use Rattle.closure.specs.Compute.{answer}
+use Rattle.closure.specs.declared.close.Summary.{Summary}
+use Rattle.closure.specs.declared.close.Closing.{Closing}
+use Rattle.closure.specs.declared.close.Closing.the-variants.{Accepted, Refused}
+
+-- entries of the work row
+abbrev pub maxWork : ℕ
+maxWork = 16384
+
+-- 8. 'The lead row has fewer than V entries.'
+abbrev pub leadsTooShort : ℕ → List ℕ → Test
+leadsTooShort v leads = record { holds = ltb (length leads) v; refusal = LeadsTooShort }
+
+-- 9. 'The work row has fewer than 16,384 entries.'
+abbrev pub workTooShort : List ℕ → Test
+workTooShort work = record { holds = ltb (length work) maxWork; refusal = WorkTooShort }
+
+-- 14. 'More than V + 1 rounds have been made; only rounds of the closing rules within the limit that change the grouping count, and idle ones
+-- never do.' These are the answer's rounds.
+abbrev pub tooManyRounds : ℕ → Answer → Test
+tooManyRounds v a = record { holds = ltb (v + 1) (a .rounds); refusal = TooManyRounds }
+
+-- what closing answers, and what the lent lead row and work row then hold
+pub record Outcome : Type 0 where
+  pub result : Closing
+  pub leads : List ℕ
+  pub work : List ℕ
+
+-- 'Everything lent keeps its contents.'
+unfoldable pub refused : List ℕ → List ℕ → Refusal → Outcome
+refused leads work r = record { result = Refused r; leads = leads; work = work }
+
+-- an answer but for its leads
+abbrev pub summary : Answer → Summary
+summary a =
+    record { verdict = a .verdict; rounds = a .rounds; ands = a .ands; xors = a .xors; ites = a .ites; groups = a .groups }
+
+-- 'Leads are handed over in a lent row of 32-bit codes, entry v - 1 for net v'; 'On acceptance the first 16,384 work entries (32-bit) are zero;
+-- .. what was lent past that keeps its contents.'
+unfoldable pub accepted : ℕ → List ℕ → List ℕ → Answer → Outcome
+accepted v leads work a =
+    record { result = Accepted (summary a); leads = a .leads ++ drop v leads; work = replicate maxWork 0 ++ drop maxWork work }
+
+-- test 14, and the answer
+unfoldable pub closeRounds : ℕ → List ℤ → ℕ → List ℕ → List ℕ → Outcome
+closeRounds v row limit leads work =
+    let a = answer v (clausesOf row) limit in
+    decide (refused leads work) (accepted v leads work a) (tooManyRounds v a ∷ [])
+
+-- 'closing 5 to 12 and 14', of V, C, a literal row, a round limit, a lent lead row and a lent work row
+unfoldable pub closing : ℕ → ℕ → List ℤ → ℕ → List ℕ → List ℕ → Outcome
+closing v c row limit leads work =
+    decide (refused leads work) (closeRounds v row limit leads work)
+    (tooManyNets v ∷ tooManyClauses c ∷ tooManyEntries row ∷ leadsTooShort v leads ∷ workTooShort work
+    ∷ entryTooLarge v row ∷ notEnded row ∷ clauseCount c row ∷ [])
+
+-- closing accepts the list and answers a: its leads are the first V codes of the lead row
+pub record Answers (v c : ℕ) (row : List ℤ) (limit : ℕ) (leads work : List ℕ) (a : Answer) : Type 0 where
+  pub accepts : closing v c row limit leads work .result ≡ Accepted (summary a)
+  pub hands-over : take v (closing v c row limit leads work .leads) ≡ a .leads

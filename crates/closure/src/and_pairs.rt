@@ -1,0 +1,127 @@
+// Rule 4: ANDs with equal sets of input leads, matched by a table of those that came first with their set.
+
+ghost use mathlib.Core.Path.{_≡_};
+ghost use Prim.Native.Nat.{ℕ, _+_, _≤_, _<_};
+ghost use lib.ListN.{length, getD};
+ghost use Rattle.clauses.specs.Clause.{clausesIn};
+ghost use Rattle.clauses.specs.Listing.{Fits};
+ghost use Rattle.gates.specs.Found.{Found};
+ghost use Rattle.closure.specs.Making.{Making, Later, Rule4};
+ghost use Rattle.closure.specs.Passing.{Stepped};
+ghost use Rattle.closure.specs.Matching.{Table, Told, Matched};
+use crate::and_sets::bucket;
+use crate::and_sets::is_alike;
+use crate::tally::Tally;
+
+// What a search for the set of an AND tells: there is no AND; the AND at this place has its set; it is the first one, of this
+// bucket.
+pub enum Match {
+    Absent,
+    With(usize),
+    First(usize),
+}
+
+// Searches the table for the set of the AND at p.
+fn look_up(codes: &[u32], marks: &[u8], old: &[u32], heads: &[u32], next: &[u32], p: usize) -> Match
+    requires { ⌜ Found (clausesIn (now codes)) (now codes) (now marks) ⌝ }
+    requires { ⌜ (0 < length (now heads)) × (p < length (now codes)) ⌝ }
+    requires { ⌜ Table (now codes) (now marks) (now old) (length (now heads)) (now heads) (now next) p ⌝ }
+    ensures { λ r. ⌜ Told (now (codes .entry)) (now (marks .entry)) (now (old .entry)) (length (now (heads .entry))) p r ⌝ }
+{
+    if codes[p] == 0 {
+        return Match::Absent;
+    }
+    if marks[p] % 2 != 1 {
+        return Match::Absent;
+    }
+    let h = bucket(codes, old, heads.len(), p);
+    let mut k = heads[h] as usize;
+    while 0 < k {
+        if is_alike(codes, old, k - 1, p) {
+            return Match::With(k - 1);
+        }
+        k = next[k - 1] as usize;
+    }
+    Match::First(h)
+}
+
+// Rule 4 for the place p, after the places before it.
+fn match_at(
+    codes: &[u32],
+    marks: &[u8],
+    old: &[u32],
+    heads: &mut [u32],
+    next: &mut [u32],
+    new: &mut [u32],
+    t: Tally,
+    p: usize,
+) -> Tally
+    requires { ⌜ Found (clausesIn (now codes)) (now codes) (now marks) ⌝ }
+    requires { ⌜ Fits (length (now old)) (clausesIn (now codes)) ⌝ }
+    requires { ⌜ (length (now old) ≤ 1024) × (length (now codes) ≤ 16384) ⌝ }
+    requires { ⌜ (0 < length (now heads)) × (p < length (now codes)) ⌝ }
+    requires { ⌜ Table (now codes) (now marks) (now old) (length (now heads)) (now heads) (now next) p ⌝ }
+    requires { ⌜ Making (clausesIn (now codes)) (now old) (now new) t × Matched (now codes) (now marks) (now old) (now new) t p ⌝ }
+    ensures table { λ r. ⌜ Table (now (codes .entry)) (now (marks .entry)) (now (old .entry)) (length (now (heads .entry))) (now (heads .exit)) (now (next .exit)) (p + 1) ⌝ }
+    ensures joined { λ r. ⌜ Stepped (clausesIn (now (codes .entry))) (now (old .entry)) (now (new .entry)) t (now (new .exit)) r (Matched (now (codes .entry)) (now (marks .entry)) (now (old .entry)) (now (new .exit)) r (p + 1)) ⌝ }
+{
+    let found = look_up(codes, marks, old, heads, next, p);
+    match found {
+        Match::Absent => t,
+        Match::With(r) => t.join(new, codes[p], codes[r]),
+        Match::First(h) => {
+            next[p] = heads[h];
+            heads[h] = (p + 1) as u32;
+            t
+        }
+    }
+}
+
+// Rule 4, with lent rows for the table; no bucket has a place yet.
+fn match_all(
+    codes: &[u32],
+    marks: &[u8],
+    old: &[u32],
+    heads: &mut [u32],
+    next: &mut [u32],
+    new: &mut [u32],
+    tally: Tally,
+) -> Tally
+    requires { ⌜ Found (clausesIn (now codes)) (now codes) (now marks) ⌝ }
+    requires { ⌜ Fits (length (now old)) (clausesIn (now codes)) ⌝ }
+    requires { ⌜ (length (now old) ≤ 1024) × (length (now codes) ≤ 16384) ⌝ }
+    requires { ⌜ (0 < length (now heads)) × ((length (now codes) ≤ length (now next)) × ((h : ℕ) → getD (now heads) h 0 ≡ 0)) ⌝ }
+    requires { ⌜ Making (clausesIn (now codes)) (now old) (now new) tally ⌝ }
+    ensures made { λ r. ⌜ Making (clausesIn (now (codes .entry))) (now (old .entry)) (now (new .exit)) r ⌝ }
+    ensures later { λ r. ⌜ Later (now (new .entry)) tally (now (new .exit)) r ⌝ }
+    ensures ands { λ r. ⌜ Rule4 (clausesIn (now (codes .entry))) (now (old .entry)) (now (new .exit)) r ⌝ }
+{
+    let mut t = tally;
+    let mut p = 0;
+    while p < codes.len() {
+        t = match_at(codes, marks, old, heads, next, new, t, p);
+        p += 1;
+    }
+    t
+}
+
+// Rule 4.
+pub fn by_and_pairs(
+    codes: &[u32],
+    marks: &[u8],
+    old: &[u32],
+    new: &mut [u32],
+    tally: Tally,
+) -> Tally
+    requires { ⌜ Found (clausesIn (now codes)) (now codes) (now marks) ⌝ }
+    requires { ⌜ Fits (length (now old)) (clausesIn (now codes)) ⌝ }
+    requires { ⌜ (length (now old) ≤ 1024) × (length (now codes) ≤ 16384) ⌝ }
+    requires { ⌜ Making (clausesIn (now codes)) (now old) (now new) tally ⌝ }
+    ensures made { λ r. ⌜ Making (clausesIn (now (codes .entry))) (now (old .entry)) (now (new .exit)) r ⌝ }
+    ensures later { λ r. ⌜ Later (now (new .entry)) tally (now (new .exit)) r ⌝ }
+    ensures ands { λ r. ⌜ Rule4 (clausesIn (now (codes .entry))) (now (old .entry)) (now (new .exit)) r ⌝ }
+{
+    let mut heads = [0u32; 4096];
+    let mut next = [0u32; 16384];
+    match_all(codes, marks, old, &mut heads, &mut next, new, tally)
+}

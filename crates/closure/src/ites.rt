@@ -1,0 +1,309 @@
+// Rules 7 and 8: the ITEs, as pairs of their sides.
+
+ghost use mathlib.Core.Path.{_≡_};
+ghost use Prim.Native.Nat.{ℕ, _*_, _≤_, _<_};
+ghost use lib.ListN.{length};
+ghost use Rattle.clauses.specs.Limit.{maxNets, maxEntries};
+ghost use Rattle.clauses.specs.Code.{net};
+ghost use Rattle.clauses.specs.Clause.{clausesIn};
+ghost use Rattle.clauses.specs.Listing.{Fits};
+ghost use Rattle.gates.specs.Found.{Found};
+ghost use Rattle.closure.specs.Answer.{leadOf};
+ghost use Rattle.closure.specs.Making.{Making, Later, Rule7, Rule8};
+ghost use Rattle.closure.specs.Sides.{maxSides, sideCount, Pair, isPair, isAlike, isHeld, isLater, Ready, Step, BySelect, ByThens, Matched, Slotted, Served, Matching, PairDone, SideDone, Chained, buckets, keyOf};
+use crate::lead::lead_of;
+use crate::side_chains::bucket;
+use crate::side_chains::chain_sides;
+use crate::side_chains::key_of;
+use crate::sides::list_sides;
+use crate::sides::output_of;
+use crate::sides::select_of;
+use crate::sides::then_of;
+use crate::sign::flipped;
+use crate::tally::Tally;
+
+// Rule 7 for side i, by its select.
+fn by_select(sides: &[u32], i: usize, old: &[u32], new: &mut [u32], t: Tally) -> Tally
+    requires { ⌜ Ready (now sides) (now old) (now new) t ⌝ }
+    requires { ⌜ i < sideCount (now sides) ⌝ }
+    ensures { λ r. ⌜ Step (now (sides .entry)) (now (old .entry)) (now (new .entry)) t (now (new .exit)) r ⌝ }
+    ensures { λ r. ⌜ BySelect (now (sides .entry)) (now (old .entry)) (now (new .exit)) r i ⌝ }
+{
+    if lead_of(old, select_of(sides, i)) != 1 {
+        return t;
+    }
+    t.join(new, output_of(sides, i), then_of(sides, i))
+}
+
+// Rule 7 for all sides, by their selects.
+fn by_selects(sides: &[u32], old: &[u32], new: &mut [u32], tally: Tally) -> Tally
+    requires { ⌜ Ready (now sides) (now old) (now new) tally ⌝ }
+    ensures { λ r. ⌜ Step (now (sides .entry)) (now (old .entry)) (now (new .entry)) tally (now (new .exit)) r ⌝ }
+    ensures { λ r. ⌜ ((i : ℕ) → i < sideCount (now (sides .entry)) → BySelect (now (sides .entry)) (now (old .entry)) (now (new .exit)) r i) ⌝ }
+{
+    let mut t = tally;
+    let n = sides.len() / 3;
+    let mut i = 0;
+    while i < n {
+        t = by_select(sides, i, old, new, t);
+        i += 1;
+    }
+    t
+}
+
+// Whether sides k and j make an ITE.
+fn is_pair(sides: &[u32], k: usize, j: usize) -> bool
+    requires { ⌜ (k < sideCount (now sides)) × (j < sideCount (now sides)) ⌝ }
+    ensures { λ r. ⌜ r ≡ isPair (now (sides .entry)) k j ⌝ }
+{
+    if select_of(sides, j) != flipped(true, select_of(sides, k)) {
+        return false;
+    }
+    if output_of(sides, j) != output_of(sides, k) {
+        return false;
+    }
+    then_of(sides, j) / 2 != then_of(sides, k) / 2
+}
+
+// Whether the selects of sides i and k have one old lead, and their literals t too.
+fn is_alike(sides: &[u32], old: &[u32], i: usize, k: usize) -> bool
+    requires { ⌜ (i < sideCount (now sides)) × (k < sideCount (now sides)) ⌝ }
+    ensures { λ r. ⌜ r ≡ isAlike (now (sides .entry)) (now (old .entry)) i k ⌝ }
+{
+    if lead_of(old, select_of(sides, i)) != lead_of(old, select_of(sides, k)) {
+        return false;
+    }
+    lead_of(old, then_of(sides, i)) == lead_of(old, then_of(sides, k))
+}
+
+// Whether a slot's entry f is a side like k, counted from 1.
+fn is_held(sides: &[u32], old: &[u32], k: usize, f: usize) -> bool
+    requires { ⌜ (k < sideCount (now sides)) × (f ≤ sideCount (now sides)) ⌝ }
+    ensures { λ r. ⌜ r ≡ isHeld (now (sides .entry)) (now (old .entry)) k f ⌝ }
+{
+    if f == 0 {
+        return false;
+    }
+    is_alike(sides, old, k, f - 1)
+}
+
+// Rule 7 for the ITE of sides k and j, by its t and e.
+fn by_thens(sides: &[u32], k: usize, j: usize, old: &[u32], new: &mut [u32], t: Tally) -> Tally
+    requires { ⌜ Ready (now sides) (now old) (now new) t ⌝ }
+    requires { ⌜ Pair (now sides) k j ⌝ }
+    ensures { λ r. ⌜ Step (now (sides .entry)) (now (old .entry)) (now (new .entry)) t (now (new .exit)) r ⌝ }
+    ensures { λ r. ⌜ ByThens (now (sides .entry)) (now (old .entry)) (now (new .exit)) r k j ⌝ }
+{
+    let u = then_of(sides, k);
+    if lead_of(old, u) != lead_of(old, then_of(sides, j)) {
+        return t;
+    }
+    t.join(new, output_of(sides, k), u)
+}
+
+// Rule 8 for the ITE of sides k and j and the one in its slot; where the leads differ, it gets the slot.
+fn match_pair(
+    sides: &[u32],
+    k: usize,
+    j: usize,
+    old: &[u32],
+    slots: &mut [u32],
+    new: &mut [u32],
+    t: Tally,
+) -> Tally
+    requires { ⌜ Ready (now sides) (now old) (now new) t ⌝ }
+    requires { ⌜ Slotted (now sides) (now old) (now slots) ⌝ }
+    requires { ⌜ Pair (now sides) k j ⌝ }
+    ensures { λ r. ⌜ Matching (now (sides .entry)) (now (old .entry)) k (now (slots .entry)) (now (new .entry)) t (now (slots .exit)) (now (new .exit)) r ⌝ }
+    ensures { λ r. ⌜ Served (now (sides .entry)) (now (old .entry)) (now (slots .exit)) (now (new .exit)) r k j ⌝ }
+{
+    let s = lead_of(old, then_of(sides, j)) as usize;
+    let f = slots[s] as usize;
+    if is_held(sides, old, k, f) {
+        return t.join(new, output_of(sides, k), output_of(sides, f - 1));
+    }
+    slots[s] = (k + 1) as u32;
+    t
+}
+
+// Rule 7 by t and e, and rule 8, for sides k and j if they make an ITE.
+fn try_pair(
+    sides: &[u32],
+    k: usize,
+    j: usize,
+    old: &[u32],
+    slots: &mut [u32],
+    new: &mut [u32],
+    t: Tally,
+) -> Tally
+    requires { ⌜ Ready (now sides) (now old) (now new) t ⌝ }
+    requires { ⌜ Slotted (now sides) (now old) (now slots) ⌝ }
+    requires { ⌜ (k < sideCount (now sides)) × (j < sideCount (now sides)) ⌝ }
+    ensures { λ r. ⌜ Matching (now (sides .entry)) (now (old .entry)) k (now (slots .entry)) (now (new .entry)) t (now (slots .exit)) (now (new .exit)) r ⌝ }
+    ensures { λ r. ⌜ (Pair (now (sides .entry)) k j → PairDone (now (sides .entry)) (now (old .entry)) (now (slots .exit)) (now (new .exit)) r k j) ⌝ }
+{
+    if !is_pair(sides, k, j) {
+        return t;
+    }
+    let u = by_thens(sides, k, j, old, new, t);
+    match_pair(sides, k, j, old, slots, new, u)
+}
+
+// .. for the ITEs whose first side is k.
+fn match_side(
+    sides: &[u32],
+    k: usize,
+    heads: &[u32],
+    next: &[u32],
+    old: &[u32],
+    slots: &mut [u32],
+    new: &mut [u32],
+    tally: Tally,
+) -> Tally
+    requires { ⌜ Ready (now sides) (now old) (now new) tally ⌝ }
+    requires { ⌜ Slotted (now sides) (now old) (now slots) ⌝ }
+    requires { ⌜ (length (now heads) ≡ 2 * buckets) × (length (now next) ≡ 2 * maxSides) ⌝ }
+    requires { ⌜ Chained (keyOf (now sides) (now old)) (2 * sideCount (now sides)) (now heads) (now next) ⌝ }
+    requires { ⌜ k < sideCount (now sides) ⌝ }
+    ensures { λ r. ⌜ Matching (now (sides .entry)) (now (old .entry)) k (now (slots .entry)) (now (new .entry)) tally (now (slots .exit)) (now (new .exit)) r ⌝ }
+    ensures { λ r. ⌜ ((j : ℕ) → Pair (now (sides .entry)) k j → PairDone (now (sides .entry)) (now (old .entry)) (now (slots .exit)) (now (new .exit)) r k j) ⌝ }
+{
+    let mut t = tally;
+    let b = bucket(flipped(true, select_of(sides, k)), output_of(sides, k)) as usize;
+    let mut m = heads[b] as usize;
+    while 0 < m {
+        t = try_pair(sides, k, (m - 1) / 2, old, slots, new, t);
+        m = next[m - 1] as usize;
+    }
+    t
+}
+
+// Whether k is a later side than i and like it.
+fn is_later(sides: &[u32], old: &[u32], i: usize, k: usize) -> bool
+    requires { ⌜ (i < sideCount (now sides)) × (k < sideCount (now sides)) ⌝ }
+    ensures { λ r. ⌜ r ≡ isLater (now (sides .entry)) (now (old .entry)) i k ⌝ }
+{
+    if k <= i {
+        return false;
+    }
+    is_alike(sides, old, i, k)
+}
+
+// Rule 7 by t and e, and rule 8, for the ITEs whose first side is k if it is like side i.
+fn match_alike(
+    sides: &[u32],
+    i: usize,
+    k: usize,
+    heads: &[u32],
+    next: &[u32],
+    old: &[u32],
+    slots: &mut [u32],
+    new: &mut [u32],
+    t: Tally,
+) -> Tally
+    requires { ⌜ Ready (now sides) (now old) (now new) t ⌝ }
+    requires { ⌜ Slotted (now sides) (now old) (now slots) ⌝ }
+    requires { ⌜ (length (now heads) ≡ 2 * buckets) × (length (now next) ≡ 2 * maxSides) ⌝ }
+    requires { ⌜ Chained (keyOf (now sides) (now old)) (2 * sideCount (now sides)) (now heads) (now next) ⌝ }
+    requires { ⌜ (i < sideCount (now sides)) × (k < sideCount (now sides)) ⌝ }
+    ensures { λ r. ⌜ Matching (now (sides .entry)) (now (old .entry)) i (now (slots .entry)) (now (new .entry)) t (now (slots .exit)) (now (new .exit)) r ⌝ }
+    ensures { λ r. ⌜ SideDone (now (sides .entry)) (now (old .entry)) (now (slots .exit)) (now (new .exit)) r i k ⌝ }
+{
+    if !is_alike(sides, old, i, k) {
+        return t;
+    }
+    match_side(sides, k, heads, next, old, slots, new, t)
+}
+
+// .. for the ITEs whose first side is like side i, unless that was done for a later side.
+fn match_group(
+    sides: &[u32],
+    i: usize,
+    heads: &[u32],
+    next: &[u32],
+    old: &[u32],
+    slots: &mut [u32],
+    new: &mut [u32],
+    tally: Tally,
+) -> Tally
+    requires { ⌜ Ready (now sides) (now old) (now new) tally ⌝ }
+    requires { ⌜ Slotted (now sides) (now old) (now slots) ⌝ }
+    requires { ⌜ (length (now heads) ≡ 2 * buckets) × (length (now next) ≡ 2 * maxSides) ⌝ }
+    requires { ⌜ Chained (keyOf (now sides) (now old)) (2 * sideCount (now sides)) (now heads) (now next) ⌝ }
+    requires { ⌜ i < sideCount (now sides) ⌝ }
+    requires { ⌜ ((k : ℕ) → i < k → k < sideCount (now sides) → Matched (now sides) (now old) (now new) tally k) ⌝ }
+    ensures { λ r. ⌜ Step (now (sides .entry)) (now (old .entry)) (now (new .entry)) tally (now (new .exit)) r ⌝ }
+    ensures { λ _. ⌜ Slotted (now (sides .entry)) (now (old .entry)) (now (slots .exit)) ⌝ }
+    ensures { λ r. ⌜ Matched (now (sides .entry)) (now (old .entry)) (now (new .exit)) r i ⌝ }
+{
+    let mut t = tally;
+    let b = key_of(sides, old, 2 * i + 1);
+    let mut m = heads[b] as usize;
+    while 0 < m {
+        let k = (m - 1) / 2;
+        if is_later(sides, old, i, k) {
+            return t;
+        }
+        t = match_alike(sides, i, k, heads, next, old, slots, new, t);
+        m = next[m - 1] as usize;
+    }
+    t
+}
+
+// .. for all ITEs, by groups of sides that are alike: within one, a slot once taken keeps its side.
+fn match_all(
+    sides: &[u32],
+    heads: &[u32],
+    next: &[u32],
+    old: &[u32],
+    slots: &mut [u32],
+    new: &mut [u32],
+    tally: Tally,
+) -> Tally
+    requires { ⌜ Ready (now sides) (now old) (now new) tally ⌝ }
+    requires { ⌜ Slotted (now sides) (now old) (now slots) ⌝ }
+    requires { ⌜ (length (now heads) ≡ 2 * buckets) × (length (now next) ≡ 2 * maxSides) ⌝ }
+    requires { ⌜ Chained (keyOf (now sides) (now old)) (2 * sideCount (now sides)) (now heads) (now next) ⌝ }
+    ensures { λ r. ⌜ Step (now (sides .entry)) (now (old .entry)) (now (new .entry)) tally (now (new .exit)) r ⌝ }
+    ensures { λ r. ⌜ ((i : ℕ) → i < sideCount (now (sides .entry)) → Matched (now (sides .entry)) (now (old .entry)) (now (new .exit)) r i) ⌝ }
+{
+    let mut t = tally;
+    let mut i = sides.len() / 3;
+    while 0 < i {
+        i -= 1;
+        t = match_group(sides, i, heads, next, old, slots, new, t);
+    }
+    t
+}
+
+// Rules 7 and 8 for a row of sides.
+fn by_sides(sides: &[u32], old: &[u32], new: &mut [u32], t: Tally) -> Tally
+    requires { ⌜ Ready (now sides) (now old) (now new) t ⌝ }
+    ensures { λ r. ⌜ Step (now (sides .entry)) (now (old .entry)) (now (new .entry)) t (now (new .exit)) r ⌝ }
+    ensures { λ r. ⌜ ((i : ℕ) → i < sideCount (now (sides .entry)) → BySelect (now (sides .entry)) (now (old .entry)) (now (new .exit)) r i) ⌝ }
+    ensures { λ r. ⌜ ((i : ℕ) → i < sideCount (now (sides .entry)) → Matched (now (sides .entry)) (now (old .entry)) (now (new .exit)) r i) ⌝ }
+{
+    let mut heads = [0u32; 8192];
+    let mut next = [0u32; 65536];
+    let mut slots = [0u32; 2050];
+    chain_sides(sides, old, &mut heads, &mut next);
+    let u = by_selects(sides, old, new, t);
+    match_all(sides, &heads, &next, old, &mut slots, new, u)
+}
+
+// Rules 7 and 8: joins what they conclude from the old leads.
+pub fn by_ites(codes: &[u32], marks: &[u8], old: &[u32], new: &mut [u32], t: Tally) -> Tally
+    requires { ⌜ Found (clausesIn (now codes)) (now codes) (now marks) ⌝ }
+    requires { ⌜ Fits (length (now old)) (clausesIn (now codes)) ⌝ }
+    requires { ⌜ Making (clausesIn (now codes)) (now old) (now new) t ⌝ }
+    requires { ⌜ (length (now old) ≤ maxNets) × (length (now codes) ≤ maxEntries) ⌝ }
+    requires { ⌜ ((c : ℕ) → net (leadOf (now old) c) ≤ net c) ⌝ }
+    ensures making { λ r. ⌜ Making (clausesIn (now (codes .entry))) (now (old .entry)) (now (new .exit)) r ⌝ }
+    ensures later { λ r. ⌜ Later (now (new .entry)) t (now (new .exit)) r ⌝ }
+    ensures seven { λ r. ⌜ Rule7 (clausesIn (now (codes .entry))) (now (old .entry)) (now (new .exit)) r ⌝ }
+    ensures eight { λ r. ⌜ Rule8 (clausesIn (now (codes .entry))) (now (old .entry)) (now (new .exit)) r ⌝ }
+{
+    let mut sides = [0u32; 98304];
+    let n = list_sides(codes, marks, &mut sides);
+    by_sides(&sides[..3 * n], old, new, t)
+}

@@ -1,0 +1,179 @@
+// Rules 5 and 6: XORs are matched by what is left of them without one literal.
+
+ghost use mathlib.Core.Path.{_≡_};
+ghost use Prim.Native.Nat.{_+_, _<_};
+ghost use lib.ListN.{length};
+ghost use Rattle.clauses.specs.Clause.{clausesIn};
+ghost use Rattle.gates.specs.Found.{clauseAt, Starts};
+ghost use Rattle.closure.specs.Making.{Making, Later, Rule5, Rule6};
+ghost use Rattle.closure.specs.Xors.{Packable};
+ghost use Rattle.closure.specs.XorMatching.{Ready, joinAlone, Placed, Room, Stepped, restAlong, sumAlong, Matched};
+use crate::nets::rest_of;
+use crate::sign::flipped;
+use crate::table::enter;
+use crate::table::look_up;
+use crate::tally::Tally;
+
+// A round that is being made, and the slots taken in the table of keys.
+pub struct Pass {
+    pub tally: Tally,
+    pub count: usize,
+}
+
+// Joins a sum of at most one net to it.
+fn join_alone(new: &mut [u32], t: Tally, key: u64, sum: u32) -> Tally
+    requires { ⌜ t .joins < 4294967295 ⌝ }
+    ensures { λ r. ⌜ record { row = now (new .exit); tally = r } ≡ joinAlone (now (new .entry)) t key sum ⌝ }
+{
+    if key < 65536 {
+        return t.join(new, sum, 2 * (key as u32));
+    }
+    t
+}
+
+// Joins a sum to the one in the slot of its key, or gives it a slot.
+fn place(
+    new: &mut [u32],
+    keys: &mut [u64],
+    sums: &mut [u32],
+    next: &mut [u32],
+    heads: &mut [u32],
+    pass: Pass,
+    key: u64,
+    sum: u32,
+) -> Pass
+    requires { ⌜ Room (record { leads = now new; keys = now keys; sums = now sums; next = now next; heads = now heads }) pass ⌝ }
+    ensures { λ r. ⌜ Placed key sum
+        (record { leads = now (new .entry); keys = now (keys .entry); sums = now (sums .entry); next = now (next .entry); heads = now (heads .entry) }) pass
+        (record { leads = now (new .exit); keys = now (keys .exit); sums = now (sums .exit); next = now (next .exit); heads = now (heads .exit) }) r ⌝ }
+{
+    let t = pass.tally;
+    let count = pass.count;
+    let k = look_up(keys, next, heads, count, key);
+    if 0 < k {
+        let other = sums[k - 1];
+        return Pass {
+            tally: t.join(new, sum, other),
+            count: count,
+        };
+    }
+    enter(keys, next, heads, count, key);
+    sums[count] = sum;
+    Pass {
+        tally: t,
+        count: count + 1,
+    }
+}
+
+// Takes one literal of an XOR: what is left of the others is its sum.
+fn take_literal(
+    codes: &[u32],
+    old: &[u32],
+    new: &mut [u32],
+    keys: &mut [u64],
+    sums: &mut [u32],
+    next: &mut [u32],
+    heads: &mut [u32],
+    pass: Pass,
+    b: usize,
+    n: usize,
+    p: usize,
+) -> Pass
+    requires { ⌜ Packable (now old) (now codes) b n p ⌝ }
+    requires { ⌜ Room (record { leads = now new; keys = now keys; sums = now sums; next = now next; heads = now heads }) pass ⌝ }
+    requires { ⌜ pass .tally .joins < 4294967294 ⌝ }
+    ensures { λ r. ⌜ Stepped (restAlong (now (old .entry)) (now (codes .entry)) b n p .key) (sumAlong (now (old .entry)) (now (codes .entry)) b n p)
+        (record { leads = now (new .entry); keys = now (keys .entry); sums = now (sums .entry); next = now (next .entry); heads = now (heads .entry) }) pass
+        (record { leads = now (new .exit); keys = now (keys .exit); sums = now (sums .exit); next = now (next .exit); heads = now (heads .exit) }) r ⌝ }
+{
+    let rest = rest_of(codes, old, b, n, p);
+    let key = rest.key;
+    let sum = flipped(!rest.odd, codes[p]);
+    let count = pass.count;
+    let t = join_alone(new, pass.tally, key, sum);
+    place(
+        new,
+        keys,
+        sums,
+        next,
+        heads,
+        Pass {
+            tally: t,
+            count: count,
+        },
+        key,
+        sum,
+    )
+}
+
+// Takes each literal of the clause of n literals that starts at b, if it stands for an XOR.
+fn take_clause(
+    codes: &[u32],
+    marks: &[u8],
+    old: &[u32],
+    new: &mut [u32],
+    keys: &mut [u64],
+    sums: &mut [u32],
+    next: &mut [u32],
+    heads: &mut [u32],
+    pass: Pass,
+    b: usize,
+    n: usize,
+) -> Pass
+    requires { ⌜ Ready (now codes) (now marks) (now old) ⌝ }
+    requires { ⌜ Starts (now codes) b × (n ≡ length (clauseAt (now codes) b)) ⌝ }
+    requires { ⌜ Matched (now codes) (now marks) (now old) b (record { leads = now new; keys = now keys; sums = now sums; next = now next; heads = now heads }) pass ⌝ }
+    ensures matched { λ r. ⌜ Matched (now (codes .entry)) (now (marks .entry)) (now (old .entry)) (b + n)
+        (record { leads = now (new .exit); keys = now (keys .exit); sums = now (sums .exit); next = now (next .exit); heads = now (heads .exit) }) r ⌝ }
+    ensures later { λ r. ⌜ Later (now (new .entry)) (pass .tally) (now (new .exit)) (r .tally) ⌝ }
+{
+    let mut s = pass;
+    let end = b + n;
+    if marks[end] != 1 {
+        return s;
+    }
+    let mut p = b;
+    while p < end {
+        s = take_literal(codes, old, new, keys, sums, next, heads, s, b, n, p);
+        p += 1;
+    }
+    s
+}
+
+// Joins every conclusion of rules 5 and 6.
+pub fn by_xors(codes: &[u32], marks: &[u8], old: &[u32], new: &mut [u32], t: Tally) -> Tally
+    requires { ⌜ Ready (now codes) (now marks) (now old) ⌝ }
+    requires { ⌜ Making (clausesIn (now codes)) (now old) (now new) t ⌝ }
+    ensures making { λ r. ⌜ Making (clausesIn (now (codes .entry))) (now (old .entry)) (now (new .exit)) r ⌝ }
+    ensures later { λ r. ⌜ Later (now (new .entry)) t (now (new .exit)) r ⌝ }
+    ensures five { λ r. ⌜ Rule5 (clausesIn (now (codes .entry))) (now (old .entry)) (now (new .exit)) r ⌝ }
+    ensures six { λ r. ⌜ Rule6 (clausesIn (now (codes .entry))) (now (old .entry)) (now (new .exit)) r ⌝ }
+{
+    let mut keys = [0u64; 16384];
+    let mut sums = [0u32; 16384];
+    let mut next = [0u32; 16384];
+    let mut heads = [0u32; 4093];
+    let mut s = Pass { tally: t, count: 0 };
+    let mut b = 0;
+    let mut q = 0;
+    while q < codes.len() {
+        if codes[q] == 0 {
+            s = take_clause(
+                codes,
+                marks,
+                old,
+                new,
+                &mut keys,
+                &mut sums,
+                &mut next,
+                &mut heads,
+                s,
+                b,
+                q - b,
+            );
+            b = q + 1;
+        }
+        q += 1;
+    }
+    s.tally
+}
