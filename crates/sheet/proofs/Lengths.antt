@@ -1,0 +1,109 @@
+-- How long a sheet can be.
+-- Assumes nothing.
+use mathlib.Core.Path.{_≡_, refl, sym, _∙_, ap}
+use mathlib.Core.Logic.{_≢_}
+use mathlib.Core.Bool.{true, false}
+use mathlib.Core.List.{List, [], _∷_, _++_}
+use Prim.Native.Nat.{ℕ, zero, suc, _+_, _*_, _/_, _%_, _^_, _≤_, _<_}
+use native.Mathlib.Decide.{decLt}
+use native.Mathlib.Omega.{arith}
+use borrow.Table.Steps.{cases}
+use lib.Dec.{eqb}
+use lib.ListN.{length, getD, length-append}
+use Rattle.clauses.specs.Bytes.{lf}
+use Rattle.clauses.specs.Code.{net}
+use Rattle.clauses.specs.Number.{decimal}
+use Rattle.clauses.proofs.Decimals.{decimal-length, length-digit, length-more}
+use Rattle.gates.specs.Sign.{isInverse}
+use Rattle.closure.specs.declared.Verdict.{Verdict}
+use Rattle.closure.specs.declared.Verdict.the-variants.{Contradiction, Settled, Unfinished}
+use Rattle.closure.specs.Answer.{Answer}
+use Rattle.sheet.specs.Sheet.{comma, namesLine, verdictText, field, valuesLine, leadText, netLine, netLeadLine, netLines, leadLines, sheetText}
+use Rattle.sheet.proofs.Texts.{numbers-length, values-length, sheet-length, net-length}
+
+-- a number of at most four digits
+decimal-short : (n : ℕ) → n < 10000 → length (decimal n) ≤ 4
+decimal-short n h = four n h
+  where
+    one : (m : ℕ) → m < 10 → length (decimal m) ≤ 1
+    one m k = omega (arith, length-digit m k)
+
+    two : (m : ℕ) → m < 100 → length (decimal m) ≤ 2
+    two m k = go (decLt m 10)
+      where
+        go : Dec (m < 10) → length (decimal m) ≤ 2
+        go (yes q) = omega (arith, one m q)
+        go (no q) = omega (arith, length-more m (omega arith) (omega arith), one (m / 10) (omega arith))
+
+    three : (m : ℕ) → m < 1000 → length (decimal m) ≤ 3
+    three m k = go (decLt m 10)
+      where
+        go : Dec (m < 10) → length (decimal m) ≤ 3
+        go (yes q) = omega (arith, one m q)
+        go (no q) = omega (arith, length-more m (omega arith) (omega arith), two (m / 10) (omega arith))
+
+    four : (m : ℕ) → m < 10000 → length (decimal m) ≤ 4
+    four m k = go (decLt m 10)
+      where
+        go : Dec (m < 10) → length (decimal m) ≤ 4
+        go (yes q) = omega (arith, one m q)
+        go (no q) = omega (arith, length-more m (omega arith) (omega arith), three (m / 10) (omega arith))
+
+lead-short : (code : ℕ) → code < 20000 → length (leadText code) ≤ 5
+unfolding leadText
+lead-short code h =
+    let d : length (decimal (net code)) ≤ 4 = decimal-short (net code) (omega arith) in
+    cases (eqb code 0) (λ z. rw z (omega arith))
+    (λ z. cases (eqb code 1) (λ o. rw (z, o) (omega arith)) (λ o. cases (isInverse code) (λ i. rw (z, o, i) (omega arith)) (λ i. rw (z, o, i) (omega arith))))
+
+-- every code of the row is of a net with at most four digits
+pub data Short : List ℕ → Type 0 where
+  none : Short []
+  more : {code : ℕ} {codes : List ℕ} → code < 20000 → Short codes → Short (code ∷ codes)
+
+nets-short : (w : ℕ) {codes : List ℕ} → Short codes → w + length codes ≤ 10000 → length (netLines w codes) ≤ 11 * length codes
+unfolding netLines
+nets-short w none h = omega arith
+nets-short w (more {code = code} {codes = codes} k s) h =
+    let rest : length (netLines (suc w) codes) ≤ 11 * length codes = nets-short (suc w) s (omega arith) in
+    omega (arith, length-append (netLine w code) (netLines (suc w) codes), net-length w code, length-append (decimal w) (comma ∷ []), decimal-short w (omega arith), lead-short code k)
+
+verdict-short : (w : Verdict) → length (verdictText w) ≤ 13
+unfolding verdictText
+verdict-short Contradiction = omega arith
+verdict-short Settled = omega arith
+verdict-short Unfinished = omega arith
+
+values-short : (v : ℕ) (a : Answer) → length (valuesLine v a) ≤ 80
+values-short v a =
+    omega (
+      arith,
+      values-length v a,
+      verdict-short (a .verdict),
+      numbers-length v a,
+      length-append (decimal (a .rounds)) (comma ∷ []),
+      length-append (decimal v) (comma ∷ []),
+      length-append (decimal (a .ands)) (comma ∷ []),
+      length-append (decimal (a .xors)) (comma ∷ []),
+      length-append (decimal (a .ites)) (comma ∷ []),
+      length-append (decimal (a .groups)) (lf ∷ []),
+      decimal-length (a .rounds),
+      decimal-length v,
+      decimal-length (a .ands),
+      decimal-length (a .xors),
+      decimal-length (a .ites),
+      decimal-length (a .groups),
+    )
+
+leads-short : (w : Verdict) (leads : List ℕ) → (w ≢ Contradiction → Short leads) → length leads ≤ 1024 → length (leadLines w leads) ≤ 11273
+unfolding leadLines netLeadLine
+leads-short Contradiction leads s h = omega arith
+leads-short Settled leads s h =
+    omega (arith, length-append netLeadLine (netLines 1 leads), nets-short 1 (s (λ e. let z : _≡_ {A = ℕ} 0 1 = cc in omega arith)) (omega arith))
+leads-short Unfinished leads s h =
+    omega (arith, length-append netLeadLine (netLines 1 leads), nets-short 1 (s (λ e. let z : _≡_ {A = ℕ} 0 1 = cc in omega arith)) (omega arith))
+
+-- a sheet for at most 1,024 nets fits the buffer that it asks for
+pub sheet-fits : (v : ℕ) (a : Answer) → (a .verdict ≢ Contradiction → Short (a .leads)) → length (a .leads) ≤ 1024 → length (sheetText v a) ≤ 16384
+unfolding namesLine
+sheet-fits v a s h = omega (arith, sheet-length v a, values-short v a, leads-short (a .verdict) (a .leads) s h)

@@ -1,0 +1,3 @@
+// The sheet: closing's answer as text.
+
+pub mod lines;
