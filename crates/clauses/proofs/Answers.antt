@@ -5,51 +5,58 @@ use mathlib.Core.List.{List, [], _∷_}
 use Prim.Native.Nat.{ℕ, _≤_}
 use native.Mathlib.Omega.{arith}
 use lib.IntN.{ℤ}
+use borrow.Author.Tests.{ltb-false}
 use lib.ListN.{length, drop, length-append}
 use Rattle.clauses.specs.Printing as Printing
 use Rattle.clauses.specs.Printing.{listText, printing, written}
 use Rattle.clauses.specs.Reading as Reading
 use Rattle.clauses.specs.Reading.{Sizes, Heading, lines, heading, wordsOf, Body, body, readNumbers, readBody, readHeading, reading, accepted}
-use Rattle.clauses.specs.Refusal.{textTooLong}
+use Rattle.clauses.specs.Limit.{maxNets}
+use Rattle.clauses.specs.Refusal.{textTooLong, rowTooShort, tooManyNets, tooManyClauses, tooManyEntries, entryTooLarge, notEnded, clauseCount}
 use Rattle.clauses.specs.declared.refusal.Refusal.{Refusal}
 use Rattle.clauses.specs.declared.refusal.Refusal.the-variants.{Header, Word}
 use Rattle.clauses.specs.declared.printing.Printing.the-variants.{Written}
 use Rattle.clauses.specs.declared.reading.ListSize.{ListSize}
 use Rattle.clauses.specs.declared.reading.Reading.the-variants.{Accepted}
-use Rattle.clauses.proofs.Deciding.{decide-either}
+use Rattle.clauses.proofs.Deciding.{decide-either, decide-has}
 
 -- Reading
 
-EntriesWithin : Reading.Outcome → Type 0
-EntriesWithin o = (s : ListSize) → o .result ≡ Accepted s → s .entries ≤ length (o .row)
+-- the entries that reading counts lie within the row, and V within its limit
+Within : Reading.Outcome → Type 0
+Within o = (s : ListSize) → o .result ≡ Accepted s → (s .entries ≤ length (o .row)) × (s .nets ≤ maxNets)
 
 module _ (row : List ℤ) where
-  refused-within : (r : Refusal) → EntriesWithin (Reading.refused row r)
-  unfolding EntriesWithin Reading.refused
+  refused-within : (r : Refusal) → Within (Reading.refused row r)
+  unfolding Within Reading.refused
   refused-within r s e = let z : _≡_ {A = ℕ} 0 1 = cc in absurd (omega arith)
 
-  accepted-within : (s : Sizes) (numbers : List ℤ) → EntriesWithin (accepted row s numbers)
-  unfolding EntriesWithin accepted
-  accepted-within s numbers t e =
+  accepted-within : (s : Sizes) (numbers : List ℤ) → s .nets ≤ maxNets → Within (accepted row s numbers)
+  unfolding Within accepted
+  accepted-within s numbers h t e =
       let same : length numbers ≡ t .entries = cc in
-      omega (arith, same, length-append numbers (drop (length numbers) row))
+      let nets : s .nets ≡ t .nets = cc in
+      (omega (arith, same, length-append numbers (drop (length numbers) row)), omega (arith, nets))
 
-  body-within : (s : Sizes) (b : Body) → EntriesWithin (readBody row s b)
+  body-within : (s : Sizes) (b : Body) → Within (readBody row s b)
   unfolding readBody readNumbers
   body-within s (Body.malformed p) = refused-within (Word p)
   body-within s (Body.entries numbers) =
-      decide-either (Reading.refused row) (accepted row s numbers) EntriesWithin refused-within (accepted-within s numbers) _
+      decide-has (Reading.refused row) (accepted row s numbers) Within
+      (rowTooShort (length row) numbers ∷ tooManyNets (s .nets) ∷ tooManyClauses (s .clauses) ∷ tooManyEntries numbers
+      ∷ entryTooLarge (s .nets) numbers ∷ notEnded numbers ∷ clauseCount (s .clauses) numbers ∷ [])
+      (λ t k. refused-within (t .refusal)) (λ n. accepted-within s numbers (ltb-false _ _ (n .1 .0)))
 
-  heading-within : (h : Heading) → EntriesWithin (readHeading row h)
+  heading-within : (h : Heading) → Within (readHeading row h)
   unfolding readHeading
   heading-within (Heading.malformed p) = refused-within (Header p)
   heading-within (Heading.sized s ls) = body-within s (body (wordsOf ls))
 
-  -- the entries that reading counts lie within the row
-  pub read-within : (text : List ℕ) (s : ListSize) → reading text row .result ≡ Accepted s → s .entries ≤ length (reading text row .row)
-  unfolding reading EntriesWithin
+  pub read-within : (text : List ℕ) (s : ListSize) → reading text row .result ≡ Accepted s
+      → (s .entries ≤ length (reading text row .row)) × (s .nets ≤ maxNets)
+  unfolding reading Within
   read-within text =
-      decide-either (Reading.refused row) (readHeading row (heading (length text) (lines 0 text))) EntriesWithin refused-within
+      decide-either (Reading.refused row) (readHeading row (heading (length text) (lines 0 text))) Within refused-within
       (heading-within (heading (length text) (lines 0 text))) (textTooLong text ∷ [])
 
 -- Printing

@@ -31,7 +31,7 @@ pub record Numeral (n : ℕ) (w : List ℕ) : Type 0 where
   pub figures : every isDigit w ≡ true
   pub some-figure : 1 ≤ length w
   few-figures : (m : ℕ) → n < 10 ^ suc m → length w ≤ suc m
-  worth : value 0 w ≡ n
+  pub worth : value 0 w ≡ n
   no-leading-zero : 1 ≤ n → getD w 0 0 ≡ nought → ⊥
 
 one-figure : (n : ℕ) → n < 10 → Numeral n ((nought + n % 10) ∷ [])

@@ -20,7 +20,7 @@ use Rattle.clauses.specs.declared.checks.Check.the-variants.{Passed, Ref
 use Rattle.clauses.proofs.Deciding.{NoneHolds, decide-accepted, decide-none-holds}
 
 -- a chain passes only if none of its tests holds
-passed-none-holds : (ts : List Test) → decide Refused Passed ts ≡ Passed → NoneHolds ts
+pub passed-none-holds : (ts : List Test) → decide Refused Passed ts ≡ Passed → NoneHolds ts
 passed-none-holds ts h = decide-none-holds Refused Passed (λ k. k ≡ Passed) (λ r e. let z : _≡_ {A = ℕ} 0 1 = cc in omega arith) ts h
 
 module _ {A : Type 0} (refused : Refusal → A) where
@@ -29,12 +29,12 @@ module _ {A : Type 0} (refused : Refusal → A) where
   first-refused true r s rest a h k = let e : r ≡ s = cc in ap refused e
   first-refused false r s rest a h k = k h
 
-  decide-append : (accepted : A) (ts us : List Test) → decide refused accepted (ts ++ us) ≡ decide refused (decide refused accepted us) ts
+  pub decide-append : (accepted : A) (ts us : List Test) → decide refused accepted (ts ++ us) ≡ decide refused (decide refused accepted us) ts
   unfolding decide
   decide-append accepted [] us = refl
   decide-append accepted (t ∷ ts) us = ap (cond (t .holds) (refused (t .refusal))) (decide-append accepted ts us)
 
-  decide-passed : (accepted : A) (ts : List Test) → decide Refused Passed ts ≡ Passed → decide refused accepted ts ≡ accepted
+  pub decide-passed : (accepted : A) (ts : List Test) → decide Refused Passed ts ≡ Passed → decide refused accepted ts ≡ accepted
   decide-passed accepted ts h = decide-accepted refused accepted ts (passed-none-holds ts h)
 
   pub decide-refused : (accepted : A) (ts : List Test) (r : Refusal) → decide Refused Passed ts ≡ Refused r → decide refused accepted ts ≡ refused r

@@ -15,7 +15,7 @@ use Rattle.clauses.proofs.Picks.{Perm, perm-of-same}
 use Rattle.clauses.proofs.Clauses.{mem-in, same-sym, same-trans, literals-same, literals-distinct}
 use Rattle.gates.specs.Found.{clauseAt}
 use Rattle.gates.specs.Index.{share, sum, buckets, bucketOf}
-use Rattle.gates.proofs.Rows.{clause-none, clause-stops, clause-goes-on}
+use Rattle.gates.proofs.Rows.{clause-stops, clause-goes-on}
 use Rattle.gates.proofs.Walks.{from-end, from-on}
 
 sum-pick : {x : ℕ} {xs ys : List ℕ} → Pick x xs ys → sum xs ≡ share x + sum ys
@@ -63,17 +63,13 @@ module _ (q : List ℕ) (i : ℕ) where
   rest-again h e = ap (λ (l : List ℕ). sum (literals l)) (from-on q i h) ∙ rw (e, literals)
 
 module _ (row : List ℕ) (i : ℕ) where
-  pub clause-sum-end : length row ≤ i → sum (clauseAt row i) ≡ 0
+  pub clause-sum-stop : getD row i 0 ≡ 0 → sum (clauseAt row i) ≡ 0
   unfolding sum
-  clause-sum-end h = ap sum (clause-none row i h)
+  clause-sum-stop e = ap sum (clause-stops row i e)
 
-  pub clause-sum-stop : i < length row → getD row i 0 ≡ 0 → sum (clauseAt row i) ≡ 0
+  pub clause-sum-on : (getD row i 0 ≡ 0 → ⊥) → sum (clauseAt row i) ≡ share (getD row i 0) + sum (clauseAt row (i + 1))
   unfolding sum
-  clause-sum-stop h e = ap sum (clause-stops row i h e)
-
-  pub clause-sum-on : i < length row → (getD row i 0 ≡ 0 → ⊥) → sum (clauseAt row i) ≡ share (getD row i 0) + sum (clauseAt row (i + 1))
-  unfolding sum
-  clause-sum-on h n = ap sum (clause-goes-on row i h n)
+  clause-sum-on n = ap sum (clause-goes-on row i n)
 
 pub bucket-sum : (c : List ℕ) (s : ℕ) → s < buckets → (s + 0) % buckets ≡ sum (literals c) % buckets → s ≡ bucketOf c
 unfolding bucketOf

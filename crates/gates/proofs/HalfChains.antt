@@ -17,6 +17,11 @@ use Rattle.clauses.proofs.Lists.{keep-length, keep-one}
 use Rattle.gates.specs.Ites.{isPaired, half, halves, allHalves, output, isAcross, isMate, lastWith, halfBucket, keyOf, Chained}
 use Rattle.gates.proofs.Fills.{zero-at}
 
+pub halves-length : (k : ℕ) → length (halves k) ≡ k
+unfolding halves
+halves-length zero = refl
+halves-length (suc k) = ap suc (halves-length k)
+
 -- The last number with a property
 
 module _ (h : ℕ → ℕ) (b : ℕ) where
@@ -157,11 +162,6 @@ module _ (row : List ℕ) (m : ℕ) where
         go (no n) ih =
             let e : met (suc k) ≡ met k = rw (met-more k, elsewhere k n) (omega arith) in
             e ∙ ih ∙ ap met (sym (last-on (keyOf m row) (suc (halfBucket m x y)) k n))
-
-    halves-length : (k : ℕ) → length (halves k) ≡ k
-    unfolding halves
-    halves-length zero = refl
-    halves-length (suc k) = ap suc (halves-length k)
 
     -- k is a number of the chain, counted from 1, with n mates met before it
     pub record Walk (n k : ℕ) : Type 0 where

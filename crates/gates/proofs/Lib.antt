@@ -35,3 +35,7 @@ pub mod Pairs
 pub mod Marked
 pub mod Entries
 pub mod Found
+pub mod CountBounds
+pub mod Increments
+pub mod Lenders
+pub mod LentWalk

@@ -8,7 +8,7 @@ use Prim.Native.Nat.{ℕ, zero, suc, _+_, _-_, _≤_, _<_}
 use native.Mathlib.Omega.{arith}
 use native.Mathlib.Decide.{decLt, ℕ-discrete}
 use lib.Dec.{eqb}
-use lib.ListN.{length, getD, drop, length-drop, drop-of-length-le}
+use lib.ListN.{length, getD, drop, length-drop, drop-of-length-le, List·getD-eq-default}
 use lib.Seq.{drop-cons, drop-drop, getD-drop}
 use borrow.Author.Tests.{eq-eqb, ne-eqb, eqb-false}
 use borrow.Table.Steps.{cases}
@@ -31,17 +31,25 @@ lit-false x e = ap not (eq-eqb x 0 e)
 -- A clause that is walked from a place on
 
 module _ (row : List ℕ) (b : ℕ) where
-  pub clause-none : length row ≤ b → clauseAt row b ≡ []
-  unfolding clauseAt
-  clause-none h = run-none lit row b h
+  -- a place past the row's end reads as 0
+  pub literal-within : getD row b 0 ≢ 0 → b < length row
+  literal-within n = go (decLt b (length row))
+    where
+      go : Dec (b < length row) → b < length row
+      go (yes h) = h
+      go (no m) = absurd (n (List·getD-eq-default row 0 (omega arith)))
 
-  pub clause-stops : b < length row → getD row b 0 ≡ 0 → clauseAt row b ≡ []
+  pub clause-stops : getD row b 0 ≡ 0 → clauseAt row b ≡ []
   unfolding clauseAt
-  clause-stops h e = run-stops lit row b h (lit-false (getD row b 0) e)
+  clause-stops e = go (decLt b (length row))
+    where
+      go : Dec (b < length row) → clauseAt row b ≡ []
+      go (yes h) = run-stops lit row b h (lit-false (getD row b 0) e)
+      go (no m) = run-none lit row b (omega arith)
 
-  pub clause-goes-on : b < length row → getD row b 0 ≢ 0 → clauseAt row b ≡ getD row b 0 ∷ clauseAt row (b + 1)
+  pub clause-goes-on : getD row b 0 ≢ 0 → clauseAt row b ≡ getD row b 0 ∷ clauseAt row (b + 1)
   unfolding clauseAt
-  clause-goes-on h n = run-goes-on lit row b h (lit-true (getD row b 0) n)
+  clause-goes-on n = run-goes-on lit row b (literal-within n) (lit-true (getD row b 0) n)
 
 -- The literals of a clause
 

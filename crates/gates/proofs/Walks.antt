@@ -6,13 +6,15 @@ use mathlib.Core.Bool.{true, false}
 use mathlib.Core.List.{List, [], _∷_}
 use Prim.Native.Nat.{ℕ, _+_, _≤_, _<_}
 use native.Mathlib.Numerals.{add-one}
-use lib.ListN.{length, getD, drop, drop-of-length-le}
+use lib.ListN.{length, getD, drop, drop-of-length-le, List·getD-eq-default}
 use lib.Seq.{drop-cons}
-use borrow.Author.Tests.{eq-eqb, ne-eqb}
+use borrow.Author.Tests.{eq-eqb, ne-eqb, lt-ltb, le-ltb}
 use Rattle.clauses.specs.Lists.{any, all}
 use Rattle.clauses.specs.Listing.{mem, within, sameSet}
 use Rattle.gates.specs.Found.{clauseAt}
-use Rattle.gates.proofs.Rows.{clause-none, clause-stops, clause-goes-on}
+use Rattle.gates.specs.declared.walk.Step.{Step}
+use Rattle.gates.specs.Walk.{stepAt}
+use Rattle.gates.proofs.Rows.{literal-within, clause-stops, clause-goes-on}
 
 mem-none : (x : ℕ) → mem x [] ≡ false
 unfolding mem any
@@ -77,27 +79,39 @@ module _ (q : List ℕ) (i : ℕ) where
 -- a clause from place i on
 module _ (row : List ℕ) (i : ℕ) where
   module _ (x : ℕ) where
-    pub holds-end : length row ≤ i → mem x (clauseAt row i) ≡ false
-    holds-end h = ap (mem x) (clause-none row i h) ∙ mem-none x
+    pub holds-stop : getD row i 0 ≡ 0 → mem x (clauseAt row i) ≡ false
+    holds-stop e = ap (mem x) (clause-stops row i e) ∙ mem-none x
 
-    pub holds-stop : i < length row → getD row i 0 ≡ 0 → mem x (clauseAt row i) ≡ false
-    holds-stop h e = ap (mem x) (clause-stops row i h e) ∙ mem-none x
+    pub holds-here : getD row i 0 ≢ 0 → getD row i 0 ≡ x → mem x (clauseAt row i) ≡ true
+    holds-here n e = ap (mem x) (clause-goes-on row i n) ∙ mem-here x (getD row i 0) (clauseAt row (i + 1)) e
 
-    pub holds-here : i < length row → getD row i 0 ≢ 0 → getD row i 0 ≡ x → mem x (clauseAt row i) ≡ true
-    holds-here h n e = ap (mem x) (clause-goes-on row i h n) ∙ mem-here x (getD row i 0) (clauseAt row (i + 1)) e
-
-    pub holds-on : i < length row → getD row i 0 ≢ 0 → getD row i 0 ≢ x → mem x (clauseAt row i) ≡ mem x (clauseAt row (i + 1))
-    holds-on h n m = ap (mem x) (clause-goes-on row i h n) ∙ mem-later x (getD row i 0) (clauseAt row (i + 1)) m
+    pub holds-on : getD row i 0 ≢ 0 → getD row i 0 ≢ x → mem x (clauseAt row i) ≡ mem x (clauseAt row (i + 1))
+    holds-on n m = ap (mem x) (clause-goes-on row i n) ∙ mem-later x (getD row i 0) (clauseAt row (i + 1)) m
 
   module _ (q : List ℕ) where
-    pub within-end : length row ≤ i → within (clauseAt row i) q ≡ true
-    within-end h = ap (λ (c : List ℕ). within c q) (clause-none row i h) ∙ within-none q
+    pub within-stop : getD row i 0 ≡ 0 → within (clauseAt row i) q ≡ true
+    within-stop e = ap (λ (c : List ℕ). within c q) (clause-stops row i e) ∙ within-none q
 
-    pub within-stop : i < length row → getD row i 0 ≡ 0 → within (clauseAt row i) q ≡ true
-    within-stop h e = ap (λ (c : List ℕ). within c q) (clause-stops row i h e) ∙ within-none q
+    pub within-not : getD row i 0 ≢ 0 → mem (getD row i 0) q ≡ false → within (clauseAt row i) q ≡ false
+    within-not n e = ap (λ (c : List ℕ). within c q) (clause-goes-on row i n) ∙ within-no (getD row i 0) (clauseAt row (i + 1)) q e
 
-    pub within-not : i < length row → getD row i 0 ≢ 0 → mem (getD row i 0) q ≡ false → within (clauseAt row i) q ≡ false
-    within-not h n e = ap (λ (c : List ℕ). within c q) (clause-goes-on row i h n) ∙ within-no (getD row i 0) (clauseAt row (i + 1)) q e
+    pub within-on : getD row i 0 ≢ 0 → mem (getD row i 0) q ≡ true → within (clauseAt row i) q ≡ within (clauseAt row (i + 1)) q
+    within-on n e = ap (λ (c : List ℕ). within c q) (clause-goes-on row i n) ∙ within-yes (getD row i 0) (clauseAt row (i + 1)) q e
 
-    pub within-on : i < length row → getD row i 0 ≢ 0 → mem (getD row i 0) q ≡ true → within (clauseAt row i) q ≡ within (clauseAt row (i + 1)) q
-    within-on h n e = ap (λ (c : List ℕ). within c q) (clause-goes-on row i h n) ∙ within-yes (getD row i 0) (clauseAt row (i + 1)) q e
+-- each case of a step
+module _ (row : List ℕ) (i : ℕ) where
+  abbrev pub stopped : Step
+  stopped = record { literal = 0; at = i }
+
+  abbrev pub gone-on : Step
+  gone-on = record { literal = getD row i 0; at = i + 1 }
+
+  pub step-end : length row ≤ i → stopped ≡ stepAt row i
+  step-end h = rw (List·getD-eq-default row 0 h, le-ltb i (length row) h) refl
+
+  pub step-on : i < length row → gone-on ≡ stepAt row i
+  step-on h = rw (lt-ltb i (length row) h) refl
+
+  -- at a literal
+  pub step-place : getD row i 0 ≢ 0 → stepAt row i .at ≡ i + 1
+  step-place n = rw (lt-ltb i (length row) (literal-within row i n)) refl

@@ -1,10 +1,12 @@
 pub mod Sign
 pub mod Gate
 pub mod Counted
+pub mod Running
 pub mod Listing
 pub mod Count
 pub mod Found
 pub mod Search
+pub mod Walk
 pub mod Normal
 pub mod Index
 pub mod Mark

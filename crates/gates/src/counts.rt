@@ -1,7 +1,8 @@
-// How many gates of each kind have been found.
+// How many gates of each kind have been found: three numbers, lent to one increment for each kind.
 
 ghost use mathlib.Core.Path.{_≡_};
 ghost use Prim.Native.Nat.{_+_, _<_};
+ghost use Rattle.gates.specs.Running.{withAnds, withXors, withItes};
 
 pub struct Counts {
     pub ands: u32,
@@ -9,43 +10,55 @@ pub struct Counts {
     pub ites: u32,
 }
 
+// n ANDs more.
+pub fn add_ands(counts: &mut Counts, n: u32)
+    requires { ⌜ now counts .ands + n < 4294967296 ⌝ }
+    ensures { λ _. ⌜ now (counts .exit) ≡ withAnds (now (counts .entry)) n ⌝ }
+{
+    counts.ands += n;
+}
+
+// n XORs more.
+pub fn add_xors(counts: &mut Counts, n: u32)
+    requires { ⌜ now counts .xors + n < 4294967296 ⌝ }
+    ensures { λ _. ⌜ now (counts .exit) ≡ withXors (now (counts .entry)) n ⌝ }
+{
+    counts.xors += n;
+}
+
+// n ITEs more.
+pub fn add_ites(counts: &mut Counts, n: u32)
+    requires { ⌜ now counts .ites + n < 4294967296 ⌝ }
+    ensures { λ _. ⌜ now (counts .exit) ≡ withItes (now (counts .entry)) n ⌝ }
+{
+    counts.ites += n;
+}
+
 impl Counts {
-    pub fn with_and(self) -> Counts
-        requires { ⌜ self .ands < 4294967295 ⌝ }
-        ensures { λ r. ⌜ r .ands ≡ self .ands + 1 ⌝ }
-        ensures { λ r. ⌜ r .xors ≡ self .xors ⌝ }
-        ensures { λ r. ⌜ r .ites ≡ self .ites ⌝ }
+    pub fn with_ands(self, n: u32) -> Counts
+        requires { ⌜ self .ands + n < 4294967296 ⌝ }
+        ensures { λ r. ⌜ r ≡ withAnds self n ⌝ }
     {
-        Counts {
-            ands: self.ands + 1,
-            xors: self.xors,
-            ites: self.ites,
-        }
+        let mut counts = self;
+        add_ands(&mut counts, n);
+        counts
     }
 
-    pub fn with_xor(self) -> Counts
-        requires { ⌜ self .xors < 4294967295 ⌝ }
-        ensures { λ r. ⌜ r .ands ≡ self .ands ⌝ }
-        ensures { λ r. ⌜ r .xors ≡ self .xors + 1 ⌝ }
-        ensures { λ r. ⌜ r .ites ≡ self .ites ⌝ }
+    pub fn with_xors(self, n: u32) -> Counts
+        requires { ⌜ self .xors + n < 4294967296 ⌝ }
+        ensures { λ r. ⌜ r ≡ withXors self n ⌝ }
     {
-        Counts {
-            ands: self.ands,
-            xors: self.xors + 1,
-            ites: self.ites,
-        }
+        let mut counts = self;
+        add_xors(&mut counts, n);
+        counts
     }
 
     pub fn with_ites(self, n: u32) -> Counts
         requires { ⌜ self .ites + n < 4294967296 ⌝ }
-        ensures { λ r. ⌜ r .ands ≡ self .ands ⌝ }
-        ensures { λ r. ⌜ r .xors ≡ self .xors ⌝ }
-        ensures { λ r. ⌜ r .ites ≡ self .ites + n ⌝ }
+        ensures { λ r. ⌜ r ≡ withItes self n ⌝ }
     {
-        Counts {
-            ands: self.ands,
-            xors: self.xors,
-            ites: self.ites + n,
-        }
+        let mut counts = self;
+        add_ites(&mut counts, n);
+        counts
     }
 }

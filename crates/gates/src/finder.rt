@@ -43,9 +43,9 @@ fn mark_gates(
         ites: 0,
     };
     let found = mark_clauses(codes, index, marks, none);
-    let ites = mark_ites(codes, index, heads, chain, marks);
+    let all = mark_ites(codes, index, heads, chain, marks, found);
     mark_pairs(codes, index, marks);
-    found.with_ites(ites)
+    all
 }
 
 // What has been found: how many entries the row of codes has, and how many gates there are.

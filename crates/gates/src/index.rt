@@ -2,8 +2,10 @@
 
 use crate::fill::fill;
 use crate::search::is_among;
+use crate::walk::Walk;
+use crate::walk::next;
 ghost use mathlib.Core.Path.{_≡_};
-ghost use Prim.Native.Nat.{_+_, _<_, _≤_};
+ghost use Prim.Native.Nat.{_+_, _%_, _<_, _≤_};
 ghost use lib.ListN.{length};
 ghost use Rattle.gates.specs.Found.{clauseAt, Starts};
 ghost use Rattle.gates.specs.Normal.{Normal};
@@ -19,6 +21,14 @@ fn share(x: u32) -> usize
     ((x % 65536) * 40503 % 65537) as usize
 }
 
+// The sum of a clause's literals with one more, by buckets.
+fn add_share(s: usize, x: u32) -> usize
+    requires { ⌜ s < buckets ⌝ }
+    ensures { λ r. ⌜ r ≡ (s + share x) % buckets ⌝ }
+{
+    (s + share(x)) % BUCKETS
+}
+
 // The bucket of a clause that is given by its literals.
 pub fn bucket_of(q: &[u32]) -> usize
     ensures { λ r. ⌜ r ≡ bucketOf (now (q .entry)) ⌝ }
@@ -29,7 +39,7 @@ pub fn bucket_of(q: &[u32]) -> usize
         let x = q[i];
         i += 1;
         if !is_among(q, i, x) {
-            s = (s + share(x)) % BUCKETS;
+            s = add_share(s, x);
         }
     }
     s
@@ -37,21 +47,18 @@ pub fn bucket_of(q: &[u32]) -> usize
 
 // The bucket of the clause at b.
 fn bucket_at(codes: &[u32], b: usize) -> usize
-    requires { ⌜ Normal (now codes) ⌝ }
-    requires { ⌜ Starts (now codes) b ⌝ }
+    requires { ⌜ Normal (now codes) × Starts (now codes) b ⌝ }
     ensures { λ r. ⌜ r ≡ bucketOf (clauseAt (now (codes .entry)) b) ⌝ }
 {
     let mut s = 0;
-    let mut i = b;
-    while i < codes.len() {
-        let x = codes[i];
+    let mut walk = Walk { row: codes, at: b };
+    loop {
+        let x = next(&mut walk);
         if x == 0 {
             return s;
         }
-        s = (s + share(x)) % BUCKETS;
-        i += 1;
+        s = add_share(s, x);
     }
-    s
 }
 
 // Whether a clause starts at b.

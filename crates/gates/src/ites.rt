@@ -14,11 +14,12 @@ ghost use Rattle.gates.specs.Normal.{Normal, maxCode};
 ghost use Rattle.gates.specs.Index.{Indexed};
 ghost use Rattle.gates.specs.Mark.{startOf};
 ghost use Rattle.gates.specs.Ites.{inThree, isPaired, halvesAt, half, allHalves, output, isMate, sideMark, Sided, pairsOf, halfBucket, Chained, Room};
+use crate::counts::Counts;
 use crate::fill::fill;
 use crate::first::is_found_at;
 use crate::literal::inverse;
-use crate::search::clause_end;
 use crate::search::is_present;
+use crate::walk::clause_end;
 
 // The place after p in its clause of three literals, the first one coming after the last.
 fn next_place(codes: &[u32], p: usize) -> usize
@@ -270,43 +271,54 @@ fn sides_at(codes: &[u32], heads: &[u32], chain: &[u32], p: usize) -> Sides
     }
 }
 
-// Adds the marks of the sides, and answers how many ITEs there are.
-fn mark_sides(codes: &[u32], heads: &[u32], chain: &[u32], marks: &mut [u8]) -> u32
+// Adds the marks of the sides, and counts the ITEs.
+fn mark_sides(
+    codes: &[u32],
+    heads: &[u32],
+    chain: &[u32],
+    marks: &mut [u8],
+    counts: Counts,
+) -> Counts
     requires { ⌜ Normal (now codes) ⌝ }
     requires { ⌜ Room (now codes) (length (now heads)) (length (now chain)) ⌝ }
     requires { ⌜ Chained (now codes) (length (now heads)) (2 * length (now codes)) (now heads) (now chain) ⌝ }
     requires { ⌜ (length (now codes) ≤ length (now marks)) × ((p : ℕ) → getD (now marks) p 0 < 2) ⌝ }
-    ensures { λ r. ⌜ r ≡ length (pairsOf (now (codes .entry)) (allHalves (now (codes .entry)))) ⌝ }
+    requires { ⌜ counts .ites ≡ 0 ⌝ }
+    ensures { λ r. ⌜ (r .ands ≡ counts .ands) × (r .xors ≡ counts .xors) ⌝ }
+    ensures { λ r. ⌜ r .ites ≡ length (pairsOf (now (codes .entry)) (allHalves (now (codes .entry)))) ⌝ }
     ensures { λ _. ⌜ Sided (now (codes .entry)) (now (marks .entry)) (now (marks .exit)) ⌝ }
 {
-    let mut total: u32 = 0;
+    let mut found = counts;
     let mut p = 0;
     while p < codes.len() {
         if 0 < chain[2 * p] {
             let s = sides_at(codes, heads, chain, p);
             marks[p] = marks[p] + s.mark;
-            total += s.plain;
+            found = found.with_ites(s.plain);
         }
         p += 1;
     }
-    total
+    found
 }
 
-// Adds the marks of the sides of ITEs to marks that have none yet, and answers how many ITEs there are.
+// Adds the marks of the sides of ITEs to marks that have none yet, and counts the ITEs.
 pub fn mark_ites(
     codes: &[u32],
     index: &[u32],
     heads: &mut [u32],
     chain: &mut [u32],
     marks: &mut [u8],
-) -> u32
+    counts: Counts,
+) -> Counts
     requires { ⌜ Indexed (now codes) (now index) ⌝ }
     requires { ⌜ Normal (now codes) ⌝ }
     requires { ⌜ Room (now codes) (length (now heads)) (length (now chain)) ⌝ }
     requires { ⌜ (length (now codes) ≤ length (now marks)) × ((p : ℕ) → getD (now marks) p 0 < 2) ⌝ }
-    ensures { λ r. ⌜ r ≡ length (pairsOf (now (codes .entry)) (allHalves (now (codes .entry)))) ⌝ }
+    requires { ⌜ counts .ites ≡ 0 ⌝ }
+    ensures { λ r. ⌜ (r .ands ≡ counts .ands) × (r .xors ≡ counts .xors) ⌝ }
+    ensures { λ r. ⌜ r .ites ≡ length (pairsOf (now (codes .entry)) (allHalves (now (codes .entry)))) ⌝ }
     ensures { λ _. ⌜ Sided (now (codes .entry)) (now (marks .entry)) (now (marks .exit)) ⌝ }
 {
     chain_paired(codes, index, heads, chain);
-    mark_sides(codes, heads, chain, marks)
+    mark_sides(codes, heads, chain, marks, counts)
 }

@@ -13,8 +13,8 @@ use crate::and::is_and;
 use crate::counts::Counts;
 use crate::first::is_candidate;
 use crate::literal::inverse;
-use crate::search::clause_end;
 use crate::search::is_present;
+use crate::walk::clause_end;
 use crate::xor::is_xor;
 
 // Marks the literal at p of the clause from b to end, if it is the output of an AND.
@@ -38,7 +38,7 @@ fn mark_literal(
 {
     if is_and(codes, index, b, end, p) {
         marks[p] = 1;
-        return counts.with_and();
+        return counts.with_ands(1);
     }
     counts
 }
@@ -63,7 +63,7 @@ fn mark_end(
 {
     if is_xor(codes, index, b, end) {
         marks[end] = 1;
-        return counts.with_xor();
+        return counts.with_xors(1);
     }
     counts
 }

@@ -2,9 +2,9 @@
 
 use crate::index::BUCKETS;
 use crate::index::bucket_of;
+use crate::walk::literal;
 ghost use mathlib.Core.Path.{_≡_};
-ghost use Prim.Native.Nat.{_+_};
-ghost use lib.ListN.{length, drop};
+ghost use lib.ListN.{drop};
 ghost use Rattle.clauses.specs.Clause.{clausesIn};
 ghost use Rattle.clauses.specs.Listing.{mem, within, present};
 ghost use Rattle.gates.specs.Found.{clauseAt};
@@ -36,12 +36,8 @@ pub fn holds(codes: &[u32], b: usize, x: u32) -> bool
     ensures { λ r. ⌜ r ≡ mem x (clauseAt (now (codes .entry)) b) ⌝ }
 {
     let mut i = b;
-    while i < codes.len() {
-        let y = codes[i];
-        if y == 0 {
-            return false;
-        }
-        if y == x {
+    while literal(codes, i) != 0 {
+        if literal(codes, i) == x {
             return true;
         }
         i += 1;
@@ -54,8 +50,8 @@ pub fn is_within(codes: &[u32], b: usize, q: &[u32]) -> bool
     ensures { λ r. ⌜ r ≡ within (clauseAt (now (codes .entry)) b) (now (q .entry)) ⌝ }
 {
     let mut i = b;
-    while i < codes.len() {
-        let x = codes[i];
+    loop {
+        let x = literal(codes, i);
         if x == 0 {
             return true;
         }
@@ -64,21 +60,6 @@ pub fn is_within(codes: &[u32], b: usize, q: &[u32]) -> bool
         }
         i += 1;
     }
-    true
-}
-
-// The place of the 0 that ends the clause at b, or the row's length.
-pub fn clause_end(codes: &[u32], b: usize) -> usize
-    ensures { λ r. ⌜ r ≡ b + length (clauseAt (now (codes .entry)) b) ⌝ }
-{
-    let mut i = b;
-    while i < codes.len() {
-        if codes[i] == 0 {
-            return i;
-        }
-        i += 1;
-    }
-    i
 }
 
 // The first clause with exactly the literals of q.

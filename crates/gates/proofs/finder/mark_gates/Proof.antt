@@ -1,10 +1,9 @@
 -- `gates::finder::mark_gates` meets its contract.
 -- Assumes nothing.
-use mathlib.Core.Path.{_≡_, _∙_}
+use mathlib.Core.Path.{_∙_}
 use native.Mathlib.Omega.{arith}
 use lib.ListN.{length}
 use denote.Ref.{now}
-use Rattle.gates.specs.Ites.{allHalves, pairsOf}
 use Rattle.gates.proofs.Fills.{zero-at}
 use Rattle.gates.proofs.Marking.{marking-none, marks-small}
 use Rattle.gates.proofs.Marked.{gates-found, gates-counted}
@@ -19,13 +18,10 @@ mark-clauses-requires : tie.Need-mark-clauses-requires
 mark-clauses-requires c κs = (c .before .before .before .before .before .before .before .before .before .before .pre .0, (c .before .before .before .before .before .before .before .before .before .before .pre .1 .0, (c .before .before .before .clear .kept .0 ∙ c .before .before .before .before .before .before .before .before .before .before .pre .1 .1 .1, marking-none _ _ (λ q. rw (c .before .before .before .clear .ensures) (zero-at (length (now (c .before .before .before .before .before .before .before .before .before .before .args .marks))) q)))))
 
 mark-ites-requires : tie.Need-mark-ites-requires
-mark-ites-requires c κs = (c .before .before .before .before .before .before .before .before .before .before .before .before .before .before .before .before .pre .0, (c .before .before .before .before .before .before .before .before .before .before .before .before .before .before .before .before .pre .1 .0, (c .before .before .before .before .before .before .before .before .before .before .before .before .before .before .before .before .pre .1 .1 .0, (omega (arith, c .before .before .before .before .before .mark-clauses .kept .1 .1 .0, c .before .before .before .before .before .before .before .before .before .clear .kept .0, c .before .before .before .before .before .before .before .before .before .before .before .before .before .before .before .before .pre .1 .1 .1), marks-small (c .before .before .before .before .before .mark-clauses .ensures .0)))))
+mark-ites-requires c κs = (c .before .before .before .before .before .before .before .before .before .before .before .before .before .before .before .before .pre .0, (c .before .before .before .before .before .before .before .before .before .before .before .before .before .before .before .before .pre .1 .0, (c .before .before .before .before .before .before .before .before .before .before .before .before .before .before .before .before .pre .1 .1 .0, ((omega (arith, c .before .before .before .before .before .mark-clauses .kept .1 .1 .0, c .before .before .before .before .before .before .before .before .before .clear .kept .0, c .before .before .before .before .before .before .before .before .before .before .before .before .before .before .before .before .pre .1 .1 .1), marks-small (c .before .before .before .before .before .mark-clauses .ensures .0)), c .before .before .before .before .before .mark-clauses .ensures .1))))
 
 mark-pairs-requires : tie.Need-mark-pairs-requires
-mark-pairs-requires c κs = (c .before .before .before .before .before .before .before .before .before .before .before .before .before .before .before .before .before .before .before .before .before .before .before .before .pre .0, (c .before .before .before .before .before .before .before .before .before .before .before .before .before .before .before .before .before .before .before .before .before .before .before .before .pre .1 .0, c .before .before .before .before .before .before .before .mark-ites .ensures .1 .size ∙ c .before .before .before .before .before .before .before .before .before .before .before .before .before .mark-clauses .kept .1 .1 .0 ∙ c .before .before .before .before .before .before .before .before .before .before .before .before .before .before .before .before .before .clear .kept .0 ∙ c .before .before .before .before .before .before .before .before .before .before .before .before .before .before .before .before .before .before .before .before .before .before .before .before .pre .1 .1 .1))
-
-with-ites-requires : tie.Need-with-ites-requires
-with-ites-requires c κs = search needs
+mark-pairs-requires c κs = (c .before .before .before .before .before .before .before .before .before .before .before .before .before .before .before .before .before .before .before .before .before .before .before .before .pre .0, (c .before .before .before .before .before .before .before .before .before .before .before .before .before .before .before .before .before .before .before .before .before .before .before .before .pre .1 .0, c .before .before .before .before .before .before .before .mark-ites .ensures .1 .1 .size ∙ c .before .before .before .before .before .before .before .before .before .before .before .before .before .mark-clauses .kept .1 .1 .0 ∙ c .before .before .before .before .before .before .before .before .before .before .before .before .before .before .before .before .before .clear .kept .0 ∙ c .before .before .before .before .before .before .before .before .before .before .before .before .before .before .before .before .before .before .before .before .before .before .before .before .pre .1 .1 .1))
 
 same-length : tie.Need-same-length
 same-length c = search needs
@@ -38,10 +34,13 @@ same-length-3 c = search needs
 
 returns : tie.Need-returns
 returns c =
-    let ites : c .with-ites .result .ites ≡ length (pairsOf (now (c .before .before .before .before .before .before .before .before .before .before .before .before .before .before .before .before .before .before .before .before .before .before .before .before .before .before .before .before .args .codes)) (allHalves (now (c .before .before .before .before .before .before .before .before .before .before .before .before .before .before .before .before .before .before .before .before .before .before .before .before .before .before .before .before .args .codes)))) = omega (arith, c .with-ites .ensures .1 .1, c .before .before .before .before .before .before .before .before .before .before .before .before .before .before .before .before .before .mark-clauses .ensures .1, c .before .before .before .before .before .before .before .before .before .before .before .mark-ites .ensures .0) in
+    let start = c .before .before .before .before .before .before .before .before .before .before .before .before .before .before .before .before .before .before .before .before .before .before .before .before .before .before .before in
+    let clauses = c .before .before .before .before .before .before .before .before .before .before .before .before .before .before .before .before .mark-clauses in
+    let sides = c .before .before .before .before .before .before .before .before .before .before .mark-ites .ensures in
+    let pairs = c .before .before .mark-pairs .ensures in
     λ cs same. (
-      gates-found (c .before .before .before .before .before .before .before .before .before .before .before .before .before .before .before .before .before .before .before .before .before .before .before .before .before .before .before .before .pre .1 .0) (c .before .before .before .before .before .before .before .before .before .before .before .before .before .before .before .before .before .mark-clauses .ensures .0) (c .before .before .before .before .before .before .before .before .before .before .before .mark-ites .ensures .1) (c .before .before .before .mark-pairs .ensures) same (c .before .before .before .before .before .before .before .before .before .before .before .before .before .before .before .before .before .mark-clauses .kept .1 .1 .0 ∙ c .before .before .before .before .before .before .before .before .before .before .before .before .before .before .before .before .before .before .before .before .before .clear .kept .0 ∙ c .before .before .before .before .before .before .before .before .before .before .before .before .before .before .before .before .before .before .before .before .before .before .before .before .before .before .before .before .pre .1 .1 .1),
-      rw (c .with-ites .ensures .0, c .with-ites .ensures .1 .0, ites) (gates-counted (c .before .before .before .before .before .before .before .before .before .before .before .before .before .before .before .before .before .before .before .before .before .before .before .before .before .before .before .before .pre .1 .0) (c .before .before .before .before .before .before .before .before .before .before .before .before .before .before .before .before .before .mark-clauses .ensures .0) (c .before .before .before .before .before .before .before .before .before .before .before .mark-ites .ensures .1) (c .before .before .before .mark-pairs .ensures) same),
+      gates-found (start .pre .1 .0) (clauses .ensures .0) (sides .1 .1) pairs same (clauses .kept .1 .1 .0 ∙ c .before .before .before .before .before .before .before .before .before .before .before .before .before .before .before .before .before .before .before .before .clear .kept .0 ∙ start .pre .1 .1 .1),
+      rw (sides .0 .0, sides .0 .1, sides .1 .0) (gates-counted (start .pre .1 .0) (clauses .ensures .0) (sides .1 .1) pairs same),
     )
 
 pub mark-gates-spec : {M : Type 1} → statement M
@@ -52,7 +51,6 @@ mark-gates-spec =
     mark-clauses-requires
     mark-ites-requires
     mark-pairs-requires
-    with-ites-requires
     same-length
     same-length-2
     same-length-3

@@ -3,13 +3,13 @@
 use mathlib.Core.Path.{_≡_, sym, _∙_}
 use Prim.Native.Nat.{_+_, _-_, _%_, _<_}
 use native.Mathlib.Omega.{arith}
-use lib.ListN.{length, getD, drop}
+use lib.ListN.{length, drop}
 use denote.Ref.{now}
 use borrow.Author.Tests.{not-true, not-false}
 use borrow.Author.Needs.{needs}
 use Rattle.clauses.specs.Listing.{literals}
 use Rattle.gates.specs.Index.{sum, buckets}
-use Rattle.gates.proofs.Buckets.{share-small, rest-end, rest-new, rest-again, bucket-sum}
+use Rattle.gates.proofs.Buckets.{rest-end, rest-new, rest-again, bucket-sum}
 use Rattle.gates.proofs.index.bucket_of.Statement.{statement}
 use Rattle.gates.proofs.index.bucket_of.Tie as tie
 
@@ -34,14 +34,8 @@ add-i c = search needs
 is-among-requires : tie.Need-is-among-requires Inv-loop μ-loop
 is-among-requires c κs = search needs
 
-share-requires : tie.Need-share-requires Inv-loop μ-loop
-share-requires c κs = search needs
-
-add-s : tie.Need-add-s Inv-loop μ-loop
-add-s c =
-    let start = c .before .before .before .before .before .before .before in
-    let turn = c .before .before .before .before .before .loop in
-    omega (arith, c .share .ensures, share-small (getD (now (start .args .q)) (turn .i) 0), turn .inv .0)
+add-share-requires : tie.Need-add-share-requires Inv-loop μ-loop
+add-share-requires c κs = c .before .before .before .before .loop .inv .0
 
 loop-less : tie.Need-loop-less Inv-loop μ-loop
 loop-less c = search needs
@@ -49,7 +43,7 @@ loop-less c = search needs
 loop-again : tie.Need-loop-again Inv-loop μ-loop
 loop-again c =
     let e = rest-new (now (c .before .before .before .before .before .before .before .args .q)) (c .before .before .before .before .before .loop .i) (c .before .before .before .before .loop-test .taken) (sym (c .before .before .is-among .ensures) ∙ not-true _ (c .before .if1 .taken)) in
-    omega (arith, e, c .share .ensures, c .before .before .before .before .before .loop .inv .0, c .before .before .before .before .before .loop .inv .1)
+    omega (arith, e, c .add-share .ensures, c .before .before .before .before .before .loop .inv .0, c .before .before .before .before .before .loop .inv .1)
 
 loop-less-2 : tie.Need-loop-less-2 Inv-loop μ-loop
 loop-less-2 c = search needs
@@ -75,8 +69,7 @@ bucket-of-spec =
     shared-slice-read-x
     add-i
     is-among-requires
-    share-requires
-    add-s
+    add-share-requires
     loop-less
     loop-again
     loop-less-2

@@ -21,14 +21,14 @@ is-xor-requires c κs = search needs
 slice-write-marks : tie.Need-slice-write-marks
 slice-write-marks c = omega (arith, inside (c .before .before .before .before .before), c .before .before .before .before .before .pre .1 .1 .1 .1 .0)
 
-with-xor-requires : tie.Need-with-xor-requires
-with-xor-requires c κs = omega (arith, inside (c .before .before .before .before .before), c .before .before .before .before .before .pre .1 .0 .entries, c .before .before .before .before .before .pre .1 .1 .1 .1 .1 .xor-count, many-le (xorAt (now (c .before .before .before .before .before .args .codes))) (c .before .before .before .before .before .args .end))
+with-xors-requires : tie.Need-with-xors-requires
+with-xors-requires c κs = omega (arith, inside (c .before .before .before .before .before), c .before .before .before .before .before .pre .1 .0 .entries, c .before .before .before .before .before .pre .1 .1 .1 .1 .1 .xor-count, many-le (xorAt (now (c .before .before .before .before .before .args .codes))) (c .before .before .before .before .before .args .end))
 
 same-length : tie.Need-same-length
 same-length c = search needs
 
 returns : tie.Need-returns
-returns c = (rw (c .with-xor .ensures .0, c .with-xor .ensures .1 .0) (marking-xor (c .before .before .before .before .before .before .pre .1 .1 .1 .1 .1) _ (c .before .before .before .before .before .before .pre .1 .1 .1 .0) (c .before .before .before .before .before .before .pre .1 .1 .0 .0 .is) (inside (c .before .before .before .before .before .before)) (omega (arith, inside (c .before .before .before .before .before .before), c .before .before .before .before .before .before .pre .1 .1 .1 .1 .0)) (candidate-xor _ _ (c .before .before .before .before .before .before .pre .1 .1 .0 .1) ∙ sym (c .before .before .is-xor .ensures) ∙ c .before .if1 .taken)), c .with-xor .ensures .1 .1)
+returns c = rw (c .with-xors .ensures) (marking-xor (c .before .before .before .before .before .before .pre .1 .1 .1 .1 .1) _ (c .before .before .before .before .before .before .pre .1 .1 .1 .0) (c .before .before .before .before .before .before .pre .1 .1 .0 .0 .is) (inside (c .before .before .before .before .before .before)) (omega (arith, inside (c .before .before .before .before .before .before), c .before .before .before .before .before .before .pre .1 .1 .1 .1 .0)) (candidate-xor _ _ (c .before .before .before .before .before .before .pre .1 .1 .0 .1) ∙ sym (c .before .before .is-xor .ensures) ∙ c .before .if1 .taken), refl)
 
 returns-2 : tie.Need-returns-2
 returns-2 c = (marking-end (c .before .before .before .before .before .pre .1 .1 .1 .1 .1) _ (c .before .before .before .before .before .pre .1 .1 .1 .0) (c .before .before .before .before .before .pre .1 .1 .0 .0 .is) (inside (c .before .before .before .before .before)) (candidate-xor _ _ (c .before .before .before .before .before .pre .1 .1 .0 .1) ∙ sym (c .before .is-xor .ensures) ∙ c .if1 .left), refl)
@@ -36,4 +36,4 @@ returns-2 c = (marking-end (c .before .before .before .before .before .pre .1 .1
 pub mark-end-spec : {M : Type 1} → statement M
 mark-end-spec =
     tie.close
-    (tie.spec is-xor-requires slice-write-marks with-xor-requires same-length returns returns-2)
+    (tie.spec is-xor-requires slice-write-marks with-xors-requires same-length returns returns-2)

@@ -22,14 +22,14 @@ is-and-requires c κs = (c .before .before .before .pre .0, (c .before .before .
 slice-write-marks : tie.Need-slice-write-marks
 slice-write-marks c = omega (arith, inside (c .before .before .before .before .before), c .before .before .before .before .before .pre .1 .1 .1 .1 .0)
 
-with-and-requires : tie.Need-with-and-requires
-with-and-requires c κs = omega (arith, inside (c .before .before .before .before .before), c .before .before .before .before .before .pre .1 .0 .entries, c .before .before .before .before .before .pre .1 .1 .1 .1 .1 .and-count, many-le (andAt (now (c .before .before .before .before .before .args .codes))) (c .before .before .before .before .before .args .p))
+with-ands-requires : tie.Need-with-ands-requires
+with-ands-requires c κs = omega (arith, inside (c .before .before .before .before .before), c .before .before .before .before .before .pre .1 .0 .entries, c .before .before .before .before .before .pre .1 .1 .1 .1 .1 .and-count, many-le (andAt (now (c .before .before .before .before .before .args .codes))) (c .before .before .before .before .before .args .p))
 
 same-length : tie.Need-same-length
 same-length c = search needs
 
 returns : tie.Need-returns
-returns c = (rw (c .with-and .ensures .0, c .with-and .ensures .1 .0) (marking-and (c .before .before .before .before .before .before .pre .1 .1 .1 .1 .1) (c .before .before .before .before .before .before .pre .1 .1 .1 .0) (omega (arith, inside (c .before .before .before .before .before .before), c .before .before .before .before .before .before .pre .1 .1 .1 .1 .0)) (candidate-and _ _ _ (c .before .before .before .before .before .before .pre .1 .1 .0 .1) ∙ sym (c .before .before .is-and .ensures) ∙ c .before .if1 .taken)), c .with-and .ensures .1 .1)
+returns c = rw (c .with-ands .ensures) (marking-and (c .before .before .before .before .before .before .pre .1 .1 .1 .1 .1) (c .before .before .before .before .before .before .pre .1 .1 .1 .0) (omega (arith, inside (c .before .before .before .before .before .before), c .before .before .before .before .before .before .pre .1 .1 .1 .1 .0)) (candidate-and _ _ _ (c .before .before .before .before .before .before .pre .1 .1 .0 .1) ∙ sym (c .before .before .is-and .ensures) ∙ c .before .if1 .taken), refl)
 
 returns-2 : tie.Need-returns-2
 returns-2 c = (marking-literal (c .before .before .before .before .before .pre .1 .1 .1 .1 .1) (c .before .before .before .before .before .pre .1 .1 .1 .0) (candidate-and _ _ _ (c .before .before .before .before .before .pre .1 .1 .0 .1) ∙ sym (c .before .is-and .ensures) ∙ c .if1 .left), refl)
@@ -37,4 +37,4 @@ returns-2 c = (marking-literal (c .before .before .before .before .before .pre .
 pub mark-literal-spec : {M : Type 1} → statement M
 mark-literal-spec =
     tie.close
-    (tie.spec is-and-requires slice-write-marks with-and-requires same-length returns returns-2)
+    (tie.spec is-and-requires slice-write-marks with-ands-requires same-length returns returns-2)

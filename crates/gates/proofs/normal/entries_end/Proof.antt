@@ -4,12 +4,12 @@ use mathlib.Core.Path.{_≡_, refl, sym, _∙_, ap}
 use mathlib.Core.List.{map}
 use Prim.Native.Nat.{_+_, _-_}
 use native.Mathlib.Omega.{arith}
-use lib.ListN.{length, length-map}
+use lib.ListN.{length, length-map, List·getD-eq-default}
 use denote.Ref.{now}
 use borrow.Author.Needs.{needs}
 use Rattle.clauses.specs.Code.{codeOf}
 use Rattle.gates.specs.Found.{clauseAt}
-use Rattle.gates.proofs.Rows.{clause-none, clause-stops, clause-goes-on}
+use Rattle.gates.proofs.Rows.{clause-stops, clause-goes-on}
 use Rattle.gates.proofs.Normalising.{entry-zero, entry-some}
 use Rattle.gates.proofs.normal.entries_end.Statement.{statement}
 use Rattle.gates.proofs.normal.entries_end.Tie as tie
@@ -30,7 +30,7 @@ returns : tie.Need-returns Inv-loop μ-loop
 returns c =
     let row = now (c .before .before .before .before .args .row) in
     let i = c .before .before .before .loop .i in
-    omega (arith, c .before .before .before .loop .inv, ap length (clause-stops (map codeOf row) i (omega (arith, length-map row codeOf)) (entry-zero row i (sym (c .before .magnitude-at .ensures) ∙ c .if1 .taken))))
+    omega (arith, c .before .before .before .loop .inv, ap length (clause-stops (map codeOf row) i (entry-zero row i (sym (c .before .magnitude-at .ensures) ∙ c .if1 .taken))))
 
 add-i : tie.Need-add-i Inv-loop μ-loop
 add-i c = search needs
@@ -42,10 +42,10 @@ loop-again : tie.Need-loop-again Inv-loop μ-loop
 loop-again c =
     let row = now (c .before .before .before .before .args .row) in
     let i = c .before .before .before .loop .i in
-    omega (arith, c .before .before .before .loop .inv, ap length (clause-goes-on (map codeOf row) i (omega (arith, length-map row codeOf)) (entry-some row i (λ e. c .if1 .left (c .before .magnitude-at .ensures ∙ e)))))
+    omega (arith, c .before .before .before .loop .inv, ap length (clause-goes-on (map codeOf row) i (entry-some row i (λ e. c .if1 .left (c .before .magnitude-at .ensures ∙ e)))))
 
 returns-2 : tie.Need-returns-2 Inv-loop μ-loop
-returns-2 c = omega (arith, c .before .loop .inv, ap length (clause-none (map codeOf (now (c .before .before .args .row))) (c .before .loop .i) (omega (arith, length-map (now (c .before .before .args .row)) codeOf))))
+returns-2 c = omega (arith, c .before .loop .inv, ap length (clause-stops (map codeOf (now (c .before .before .args .row))) (c .before .loop .i) (List·getD-eq-default (map codeOf (now (c .before .before .args .row))) 0 (omega (arith, length-map (now (c .before .before .args .row)) codeOf)))))
 
 pub entries-end-spec : {M : Type 1} → statement M
 entries-end-spec =

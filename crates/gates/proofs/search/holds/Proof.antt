@@ -1,13 +1,16 @@
 -- `gates::search::holds` meets its contract.
 -- Assumes nothing.
 use mathlib.Core.Path.{_≡_, refl, sym, _∙_}
-use Prim.Native.Nat.{_-_}
-use lib.ListN.{length}
+use mathlib.Core.Logic.{_≢_}
+use Prim.Native.Nat.{_-_, _<_}
+use native.Mathlib.Omega.{arith}
+use lib.ListN.{length, getD}
 use denote.Ref.{now}
 use borrow.Author.Needs.{needs}
 use Rattle.clauses.specs.Listing.{mem}
 use Rattle.gates.specs.Found.{clauseAt}
-use Rattle.gates.proofs.Walks.{holds-end, holds-stop, holds-here, holds-on}
+use Rattle.gates.proofs.Rows.{literal-within}
+use Rattle.gates.proofs.Walks.{holds-stop, holds-here, holds-on}
 use Rattle.gates.proofs.search.holds.Statement.{statement}
 use Rattle.gates.proofs.search.holds.Tie as tie
 
@@ -17,41 +20,36 @@ Inv-loop codes b x i₀ i = mem x (clauseAt codes b) ≡ mem x (clauseAt codes i
 abbrev μ-loop : tie.MeasureT-loop
 μ-loop codes b x i₀ i = length codes - i
 
+-- at a literal
+some : (c : tie.Then1 Inv-loop μ-loop) → getD (now (c .before .before .before .before .args .codes)) (c .before .before .loop .i) 0 ≢ 0
+some c e = c .if1 .taken (c .before .literal .ensures ∙ e)
+
+inside : (c : tie.Then1 Inv-loop μ-loop) → c .before .before .loop .i < length (now (c .before .before .before .before .args .codes))
+inside c = literal-within (now (c .before .before .before .before .args .codes)) (c .before .before .loop .i) (some c)
+
 loop-holds : tie.Need-loop-holds Inv-loop μ-loop
 loop-holds c = refl
 
-mul-y : tie.Need-mul-y Inv-loop μ-loop
-mul-y c = search needs
+literal-requires : tie.Need-literal-requires Inv-loop μ-loop
+literal-requires c κs = search needs
 
-shared-slice-read-y : tie.Need-shared-slice-read-y Inv-loop μ-loop
-shared-slice-read-y c = search needs
+literal-requires-2 : tie.Need-literal-requires-2 Inv-loop μ-loop
+literal-requires-2 c κs = search needs
 
 returns : tie.Need-returns Inv-loop μ-loop
-returns c =
-    let start = c .before .before .before .before in
-    let turn = c .before .before .before .loop in
-    sym (turn .inv ∙ holds-stop (now (start .args .codes)) (turn .i) (start .args .x) (c .before .before .loop-test .taken) (c .if1 .taken))
-
-returns-2 : tie.Need-returns-2 Inv-loop μ-loop
-returns-2 c =
-    let start = c .before .before .before .before .before in
-    let turn = c .before .before .before .before .loop in
-    sym (turn .inv ∙ holds-here (now (start .args .codes)) (turn .i) (start .args .x) (c .before .before .before .loop-test .taken) (c .before .if1 .left) (c .if2 .taken))
+returns c = sym (c .before .before .before .before .loop .inv ∙ holds-here (now (c .before .before .before .before .before .before .args .codes)) (c .before .before .before .before .loop .i) (c .before .before .before .before .before .before .args .x) (some (c .before .before)) (sym (c .before .literal2 .ensures) ∙ c .if2 .taken))
 
 add-i : tie.Need-add-i Inv-loop μ-loop
-add-i c = search needs
+add-i c = omega (arith, inside (c .before .before), c .before .before .before .before .before .before .good)
 
 loop-less : tie.Need-loop-less Inv-loop μ-loop
-loop-less c = search needs
+loop-less c = omega (arith, inside (c .before .before))
 
 loop-again : tie.Need-loop-again Inv-loop μ-loop
-loop-again c =
-    let start = c .before .before .before .before .before in
-    let turn = c .before .before .before .before .loop in
-    turn .inv ∙ holds-on (now (start .args .codes)) (turn .i) (start .args .x) (c .before .before .before .loop-test .taken) (c .before .if1 .left) (c .if2 .left)
+loop-again c = c .before .before .before .before .loop .inv ∙ holds-on (now (c .before .before .before .before .before .before .args .codes)) (c .before .before .before .before .loop .i) (c .before .before .before .before .before .before .args .x) (some (c .before .before)) (λ e. c .if2 .left (c .before .literal2 .ensures ∙ e))
 
-returns-3 : tie.Need-returns-3 Inv-loop μ-loop
-returns-3 c = sym (c .before .loop .inv ∙ holds-end (now (c .before .before .args .codes)) (c .before .loop .i) (c .before .before .args .x) (c .loop-test .left))
+returns-2 : tie.Need-returns-2 Inv-loop μ-loop
+returns-2 c = sym (c .before .before .loop .inv ∙ holds-stop (now (c .before .before .before .before .args .codes)) (c .before .before .loop .i) (c .before .before .before .before .args .x) (sym (c .before .literal .ensures) ∙ c .if1 .left))
 
 pub holds-spec : {M : Type 1} → statement M
 holds-spec =
@@ -60,11 +58,10 @@ holds-spec =
     Inv-loop
     μ-loop
     loop-holds
-    mul-y
-    shared-slice-read-y
+    literal-requires
+    literal-requires-2
     returns
-    returns-2
     add-i
     loop-less
     loop-again
-    returns-3)
+    returns-2)

@@ -1,14 +1,18 @@
 -- `gates::search::is_within` meets its contract.
 -- Assumes nothing.
-use mathlib.Core.Path.{_≡_, refl, sym, _∙_}
-use Prim.Native.Nat.{_-_}
-use lib.ListN.{length}
+use mathlib.Core.Path.{_≡_, refl, sym, _∙_, ap}
+use mathlib.Core.Logic.{_≢_}
+use mathlib.Core.Bool.{Bool, not}
+use Prim.Native.Nat.{ℕ, _-_, _<_}
+use native.Mathlib.Omega.{arith}
+use lib.ListN.{length, getD}
 use denote.Ref.{now}
 use borrow.Author.Tests.{not-true, not-false}
 use borrow.Author.Needs.{needs}
-use Rattle.clauses.specs.Listing.{within}
+use Rattle.clauses.specs.Listing.{mem, within}
 use Rattle.gates.specs.Found.{clauseAt}
-use Rattle.gates.proofs.Walks.{within-end, within-stop, within-not, within-on}
+use Rattle.gates.proofs.Rows.{literal-within}
+use Rattle.gates.proofs.Walks.{within-stop, within-not, within-on}
 use Rattle.gates.proofs.search.is_within.Statement.{statement}
 use Rattle.gates.proofs.search.is_within.Tie as tie
 
@@ -18,44 +22,40 @@ Inv-loop codes b q i₀ i = within (clauseAt codes b) q ≡ within (clauseAt cod
 abbrev μ-loop : tie.MeasureT-loop
 μ-loop codes b q i₀ i = length codes - i
 
+-- at a literal
+some : (c : tie.Else1 Inv-loop μ-loop) → getD (now (c .before .before .before .before .before .args .codes)) (c .before .before .loop .i) 0 ≢ 0
+some c e = c .if1 .left (c .before .literal .ensures ∙ e)
+
+inside : (c : tie.Else1 Inv-loop μ-loop) → c .before .before .loop .i < length (now (c .before .before .before .before .before .args .codes))
+inside c = literal-within (now (c .before .before .before .before .before .args .codes)) (c .before .before .loop .i) (some c)
+
+-- whether it is among the codes
+among : (c : tie.After-is-among Inv-loop μ-loop) → mem (getD (now (c .before .before .before .before .before .before .args .codes)) (c .before .before .before .loop .i) 0) (now (c .before .before .before .before .before .before .args .q)) ≡ c .is-among .result
+among c = sym (c .is-among .ensures ∙ ap (λ (x : ℕ). mem x (now (c .before .before .before .before .before .before .args .q))) (c .before .before .literal .ensures))
+
 loop-holds : tie.Need-loop-holds Inv-loop μ-loop
 loop-holds c = refl
 
-mul-x : tie.Need-mul-x Inv-loop μ-loop
-mul-x c = search needs
-
-shared-slice-read-x : tie.Need-shared-slice-read-x Inv-loop μ-loop
-shared-slice-read-x c = search needs
+literal-requires : tie.Need-literal-requires Inv-loop μ-loop
+literal-requires c κs = search needs
 
 returns : tie.Need-returns Inv-loop μ-loop
-returns c =
-    let start = c .before .before .before .before .before .before in
-    let turn = c .before .before .before .loop in
-    sym (turn .inv ∙ within-stop (now (start .args .codes)) (turn .i) (now (start .args .q)) (c .before .before .loop-test .taken) (c .if1 .taken))
+returns c = sym (c .before .before .loop .inv ∙ within-stop (now (c .before .before .before .before .before .args .codes)) (c .before .before .loop .i) (now (c .before .before .before .before .before .args .q)) (sym (c .before .literal .ensures) ∙ c .if1 .taken))
 
 is-among-requires : tie.Need-is-among-requires Inv-loop μ-loop
 is-among-requires c κs = search needs
 
 returns-2 : tie.Need-returns-2 Inv-loop μ-loop
-returns-2 c =
-    let start = c .before .before .before .before .before .before .before .before in
-    let turn = c .before .before .before .before .before .loop in
-    sym (turn .inv ∙ within-not (now (start .args .codes)) (turn .i) (now (start .args .q)) (c .before .before .before .before .loop-test .taken) (c .before .before .if1 .left) (sym (c .before .is-among .ensures) ∙ not-true _ (c .if2 .taken)))
+returns-2 c = sym (c .before .before .before .before .loop .inv ∙ within-not (now (c .before .before .before .before .before .before .before .args .codes)) (c .before .before .before .before .loop .i) (now (c .before .before .before .before .before .before .before .args .q)) (some (c .before .before)) (among (c .before) ∙ not-true _ (c .if2 .taken)))
 
 add-i : tie.Need-add-i Inv-loop μ-loop
-add-i c = search needs
+add-i c = omega (arith, inside (c .before .before), c .before .before .before .before .before .before .before .good)
 
 loop-less : tie.Need-loop-less Inv-loop μ-loop
-loop-less c = search needs
+loop-less c = omega (arith, inside (c .before .before))
 
 loop-again : tie.Need-loop-again Inv-loop μ-loop
-loop-again c =
-    let start = c .before .before .before .before .before .before .before .before in
-    let turn = c .before .before .before .before .before .loop in
-    turn .inv ∙ within-on (now (start .args .codes)) (turn .i) (now (start .args .q)) (c .before .before .before .before .loop-test .taken) (c .before .before .if1 .left) (sym (c .before .is-among .ensures) ∙ not-false _ (c .if2 .left))
-
-returns-3 : tie.Need-returns-3 Inv-loop μ-loop
-returns-3 c = sym (c .before .loop .inv ∙ within-end (now (c .before .before .before .before .args .codes)) (c .before .loop .i) (now (c .before .before .before .before .args .q)) (c .loop-test .left))
+loop-again c = c .before .before .before .before .loop .inv ∙ within-on (now (c .before .before .before .before .before .before .before .args .codes)) (c .before .before .before .before .loop .i) (now (c .before .before .before .before .before .before .before .args .q)) (some (c .before .before)) (among (c .before) ∙ not-false _ (c .if2 .left))
 
 pub is-within-spec : {M : Type 1} → statement M
 is-within-spec =
@@ -64,12 +64,10 @@ is-within-spec =
     Inv-loop
     μ-loop
     loop-holds
-    mul-x
-    shared-slice-read-x
+    literal-requires
     returns
     is-among-requires
     returns-2
     add-i
     loop-less
-    loop-again
-    returns-3)
+    loop-again)

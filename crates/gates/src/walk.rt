@@ -1,0 +1,59 @@
+// A clause of a row of codes, walked literal by literal up to its zero.
+
+ghost use mathlib.Core.Path.{_≡_};
+ghost use Prim.Native.Nat.{_+_};
+ghost use lib.ListN.{length, getD};
+ghost use Rattle.gates.specs.Found.{clauseAt};
+ghost use Rattle.gates.specs.Walk.{stepAt, advanced};
+
+// A row of codes and a place in it.
+pub struct Walk<'a> {
+    pub row: &'a [u32],
+    pub at: usize,
+}
+
+// What stands at a place, and the place after it; past the row's end, 0 and the same place.
+struct Step {
+    literal: u32,
+    at: usize,
+}
+
+fn step_at(row: &[u32], at: usize) -> Step
+    ensures { λ r. ⌜ r ≡ stepAt (now (row .entry)) at ⌝ }
+{
+    if at < row.len() {
+        return Step {
+            literal: row[at],
+            at: at + 1,
+        };
+    }
+    Step { literal: 0, at }
+}
+
+// The next literal, or 0 at the clause's end, and past the row's. The walk goes on behind it.
+pub fn next<'s, 'a>(walk: &'s mut Walk<'a>) -> u32
+    ensures { λ r. ⌜ (r ≡ stepAt (now (now (walk .entry) .row)) (now (walk .entry) .at) .literal) × (now (walk .exit) ≡ advanced (now (walk .entry))) ⌝ }
+{
+    let step = step_at(walk.row, walk.at);
+    walk.at = step.at;
+    step.literal
+}
+
+// The first literal of a walk from a place on, for a caller that keeps the place itself.
+pub fn literal(row: &[u32], at: usize) -> u32
+    ensures { λ r. ⌜ r ≡ getD (now (row .entry)) at 0 ⌝ }
+{
+    let mut walk = Walk { row, at };
+    next(&mut walk)
+}
+
+// The place of the 0 that ends the clause at b, or the row's length.
+pub fn clause_end(codes: &[u32], b: usize) -> usize
+    ensures { λ r. ⌜ r ≡ b + length (clauseAt (now (codes .entry)) b) ⌝ }
+{
+    let mut i = b;
+    while literal(codes, i) != 0 {
+        i += 1;
+    }
+    i
+}
