@@ -20,9 +20,9 @@ use Rattle.gates.specs.Found.{clauseAt, LiteralAt, isAnd, Found}
 use Rattle.gates.proofs.Rows.{literal-in, literal-of, literal-some, clause-ended}
 use Rattle.gates.proofs.Ands.{input-same}
 use Rattle.gates.proofs.Walking.{Walk, walk-clause, literal-inside}
-use Rattle.closure.specs.Rule.{Concludes}
-use Rattle.closure.specs.Grouping.{Closure}
-use Rattle.closure.specs.Answer.{leadOf}
+use Rattle.rules.specs.Rule.{Concludes}
+use Rattle.rules.specs.Grouping.{Closure}
+use Rattle.rules.specs.Answer.{leadOf}
 use Rattle.closure.specs.Making.{Kernel, Drawn, Making, JoinedBy, Later, Rule3}
 use Rattle.closure.specs.Joining.{joinState}
 use Rattle.closure.specs.Passing.{leadAt, isOther, isWith, isEnding, First, Standing, Stepped, Tells, ClashAt, with-true, with-inverse, Clash, AndJoined}

@@ -7,7 +7,7 @@ use Prim.Native.Nat.{ℕ, zero, suc, _+_, _-_, _%_, _≤_, _<_}
 use native.Mathlib.Omega.{arith}
 use native.Mathlib.Numerals.{add-one}
 use native.Mathlib.Decide.{ℕ-discrete, decLt}
-use lib.ListN.{length, getD, set, length-set, replicate, length-replicate}
+use lib.ListN.{length, getD, set, length-set, replicate}
 use lib.Seq.{getD-set-same, getD-set-other}
 use borrow.Author.Tests.{eq-eqb, ne-eqb}
 use Rattle.clauses.specs.Code.{negate, net}
@@ -19,8 +19,8 @@ use Rattle.gates.specs.Gate.{Input, AndGate}
 use Rattle.gates.specs.Found.{clauseAt, Starts, LiteralAt, Found}
 use Rattle.gates.proofs.Rows.{literal-some}
 use Rattle.gates.proofs.Walking.{Walk, walk-first, walk-literal, walk-on, walk-behind, walk-clause, literal-inside}
-use Rattle.closure.specs.Rule.{Concludes, Covers}
-use Rattle.closure.specs.Answer.{leadOf}
+use Rattle.rules.specs.Rule.{Concludes, Covers}
+use Rattle.rules.specs.Answer.{leadOf}
 use Rattle.closure.specs.Making.{Kernel, Drawn, Making, JoinedBy, Rule4}
 use Rattle.closure.specs.Joining.{joinState}
 use Rattle.closure.specs.Passing.{leadAt, Standing, Stepped}
@@ -391,14 +391,7 @@ table-begin l z =
 pub table-size : {row marks old heads next : List ℕ} {m i : ℕ} → Table row marks old m heads next i → Table row marks old (length heads) heads next i
 table-size {row} {marks} {old} {heads} {next} {i = i} t = subst⁻¹ (λ (n : ℕ). Table row marks old n heads next i) (t .size) t
 
--- rows of zeros
-module _ (n : ℕ) where
-  pub replicate-some : 0 < n → 0 < length (replicate {A = ℕ} n 0)
-  replicate-some h = rw (length-replicate {A = ℕ} n 0) h
-
-  pub replicate-room : {k : ℕ} → k ≤ n → k ≤ length (replicate {A = ℕ} n 0)
-  replicate-room h = rw (length-replicate {A = ℕ} n 0) h
-
+-- a row of zeros
 pub zeros : (n h : ℕ) → _≡_ {A = ℕ} (getD (replicate n 0) h 0) 0
 zeros zero h = refl
 zeros (suc n) zero = refl

@@ -19,8 +19,8 @@ use Rattle.clauses.proofs.Clauses.{fits-present}
 use Rattle.gates.specs.Found.{clauseAt, Starts, LiteralAt, isPair, Found}
 use Rattle.gates.proofs.Rows.{clause-at, literal-in, LiteralOf, literal-of}
 use Rattle.gates.proofs.Walking.{Walk, walk-starts}
-use Rattle.closure.specs.Rule.{Concludes}
-use Rattle.closure.specs.Grouping.{Closure}
+use Rattle.rules.specs.Rule.{Concludes}
+use Rattle.rules.specs.Grouping.{Closure}
 use Rattle.closure.specs.Making.{Kernel, Drawn, Making, JoinedBy, Later, Rule1, Rule2}
 use Rattle.closure.specs.Joining.{joinState}
 use Rattle.closure.specs.Passing.{leadAt, isOther, First, Standing, Stepped, UnitJoined, ClauseJoined}

@@ -1,77 +1,93 @@
--- The tests of closing: each refusal where it is given, and what acceptance leaves.
+-- The tests of closing: what a check of the list tells, and what acceptance leaves.
 -- Assumes nothing.
 use mathlib.Core.Path.{_≡_, _∙_}
 use mathlib.Core.List.{List, [], _∷_}
 use Prim.Native.Nat.{ℕ, _+_, _≤_, _<_}
 use native.Mathlib.Omega.{arith}
-use borrow.Author.Tests.{lt-ltb, le-ltb, ltb-false}
+use borrow.Author.Tests.{lt-ltb, le-ltb, ltb-false, not-false}
 use lib.IntN.{ℤ}
 use lib.ListN.{length}
 use Rattle.clauses.specs.Clause.{clausesOf}
 use Rattle.clauses.specs.Listing.{Fits}
-use Rattle.clauses.specs.Refusal.{Test, decide, tooManyNets, tooManyClauses, tooManyEntries, entryTooLarge, notEnded, clauseCount}
+use Rattle.clauses.specs.Refusal.{Test, decide, isEnded, entryTooLarge, notEnded, clauseCount}
 use Rattle.clauses.specs.Tally.{tallyOf}
 use Rattle.clauses.specs.Check.{checkSizes, checkEntries}
 use Rattle.clauses.specs.declared.refusal.Refusal.{Refusal}
 use Rattle.clauses.specs.declared.refusal.Refusal.the-variants.{LeadsTooShort, WorkTooShort}
+use Rattle.clauses.specs.declared.checks.Check.{Check}
 use Rattle.clauses.specs.declared.checks.Check.the-variants as K
 use Rattle.clauses.proofs.Deciding.{NoneHolds, decide-accepted, decide-none-holds}
 use Rattle.clauses.proofs.Fitting.{entries-fit}
-use Rattle.clauses.proofs.Tests.{sizes-passed, sizes-refused, entries-passed, entries-refused}
-use Rattle.closure.specs.Compute.{answer}
-use Rattle.closure.specs.Closing.{maxWork, leadsTooShort, workTooShort, Outcome, refused, accepted, closeRounds, closing}
+use Rattle.clauses.proofs.Tests.{passed-none-holds, decide-passed, decide-refused, sizes-passed, sizes-refused}
+use Rattle.rules.specs.Compute.{answer}
+use Rattle.closure.specs.Closing.{maxWork, leadsTooShort, workTooShort, listTests, checkList, Outcome, refused, accepted, closeRounds, closing}
+use Rattle.closure.specs.Passed.{Passed}
 use Rattle.closure.specs.declared.close.Summary.{Summary}
 use Rattle.closure.specs.declared.close.Closing.{Closing}
 use Rattle.closure.specs.declared.close.Closing.the-variants.{Accepted, Refused}
-use Rattle.closure.proofs.Theorems.{rounds-bound}
+use Rattle.rules.proofs.Theorems.{rounds-bound}
 
-module _ (v c : ℕ) (row : List ℤ) (limit : ℕ) (leads work : List ℕ) where
-  abbrev pub tests : List Test
-  tests =
-      tooManyNets v ∷ tooManyClauses c ∷ tooManyEntries row ∷ leadsTooShort v leads ∷ workTooShort work
-      ∷ entryTooLarge v row ∷ notEnded row ∷ clauseCount c row ∷ []
+-- A check of the list
 
-  abbrev last : Outcome
-  last = closeRounds v row limit leads work
+module _ (v c : ℕ) (row : List ℤ) (leads work : ℕ) where
+  -- the tests behind 5 to 7
+  abbrev others : List Test
+  others = leadsTooShort v leads ∷ workTooShort work ∷ entryTooLarge v row ∷ notEnded row ∷ clauseCount c row ∷ []
 
-  pub closing-sizes : (r : Refusal) → checkSizes v c (length row) ≡ K.Refused r → closing v c row limit leads work ≡ refused leads work r
-  unfolding closing
-  closing-sizes r e =
-      sizes-refused (refused leads work) last v c row
-      (leadsTooShort v leads ∷ workTooShort work ∷ entryTooLarge v row ∷ notEnded row ∷ clauseCount c row ∷ []) r e
+  pub list-sizes : (r : Refusal) → checkSizes v c (length row) ≡ K.Refused r → checkList v c row leads work ≡ K.Refused r
+  unfolding checkList
+  list-sizes r e = sizes-refused K.Refused K.Passed v c row others r e
 
   module _ (e : checkSizes v c (length row) ≡ K.Passed) where
-    behind-sizes : closing v c row limit leads work
-        ≡ decide (refused leads work) last (leadsTooShort v leads ∷ workTooShort work ∷ entryTooLarge v row ∷ notEnded row ∷ clauseCount c row ∷ [])
-    unfolding closing
-    behind-sizes =
-        sizes-passed (refused leads work) last v c row
-        (leadsTooShort v leads ∷ workTooShort work ∷ entryTooLarge v row ∷ notEnded row ∷ clauseCount c row ∷ []) e
+    behind-sizes : checkList v c row leads work ≡ decide K.Refused K.Passed others
+    unfolding checkList
+    behind-sizes = sizes-passed K.Refused K.Passed v c row others e
 
-    pub closing-leads : length leads < v → closing v c row limit leads work ≡ refused leads work LeadsTooShort
+    pub list-leads : leads < v → checkList v c row leads work ≡ K.Refused LeadsTooShort
     unfolding decide
-    closing-leads h = behind-sizes ∙ rw (lt-ltb _ _ h)
+    list-leads h = behind-sizes ∙ rw (lt-ltb _ _ h)
 
-    module _ (h : v ≤ length leads) where
-      pub closing-work : length work < maxWork → closing v c row limit leads work ≡ refused leads work WorkTooShort
+    module _ (h : v ≤ leads) where
+      pub list-work : work < maxWork → checkList v c row leads work ≡ K.Refused WorkTooShort
       unfolding decide
-      closing-work k = behind-sizes ∙ rw (le-ltb _ _ h, lt-ltb _ _ k)
+      list-work k = behind-sizes ∙ rw (le-ltb _ _ h, lt-ltb _ _ k)
 
-      module _ (k : maxWork ≤ length work) where
-        behind-rows : closing v c row limit leads work ≡ decide (refused leads work) last (entryTooLarge v row ∷ notEnded row ∷ clauseCount c row ∷ [])
-        unfolding decide
-        behind-rows = behind-sizes ∙ rw (le-ltb _ _ h, le-ltb _ _ k)
-
-        pub closing-entries : (r : Refusal) → checkEntries c (tallyOf v row) ≡ K.Refused r → closing v c row limit leads work ≡ refused leads work r
-        closing-entries r q = behind-rows ∙ entries-refused (refused leads work) last v c row [] r q
-
-        pub closing-rounds : checkEntries c (tallyOf v row) ≡ K.Passed → closing v c row limit leads work ≡ last
-        unfolding decide
-        closing-rounds q = behind-rows ∙ entries-passed (refused leads work) last v c row [] q
+      pub list-entries : maxWork ≤ work → checkList v c row leads work ≡ checkEntries c (tallyOf v row)
+      unfolding decide checkEntries tallyOf
+      list-entries k = behind-sizes ∙ rw (le-ltb _ _ h, le-ltb _ _ k)
 
   -- no test holds: the literals are of nets 1 to V
-  pub none-holds-fits : NoneHolds tests → Fits v (clausesOf row)
+  pub none-holds-fits : NoneHolds (listTests v c row leads work) → Fits v (clausesOf row)
   none-holds-fits n = entries-fit v row (ltb-false _ _ (n .1 .1 .1 .1 .1 .0))
+
+module _ (v c : ℕ) (row : List ℤ) (leads work : List ℕ) where
+  abbrev check : Check
+  check = checkList v c row (length leads) (length work)
+
+  pub closing-refused : (limit : ℕ) (r : Refusal) → check ≡ K.Refused r → closing v c row limit leads work ≡ refused leads work r
+  unfolding closing checkList
+  closing-refused limit r h =
+      decide-refused (refused leads work) (closeRounds v row limit leads work) (listTests v c row (length leads) (length work)) r h
+
+  pub closing-rounds : (limit : ℕ) → check ≡ K.Passed → closing v c row limit leads work ≡ closeRounds v row limit leads work
+  unfolding closing checkList
+  closing-rounds limit h =
+      decide-passed (refused leads work) (closeRounds v row limit leads work) (listTests v c row (length leads) (length work)) h
+
+  none-holds-passed : NoneHolds (listTests v c row (length leads) (length work)) → Passed v row leads work
+  none-holds-passed n =
+      record {
+        nets = ltb-false _ _ (n .0);
+        entries = ltb-false _ _ (n .1 .1 .0);
+        lead-room = ltb-false _ _ (n .1 .1 .1 .0);
+        work-room = ltb-false _ _ (n .1 .1 .1 .1 .0);
+        within = ltb-false _ _ (n .1 .1 .1 .1 .1 .0);
+        ended = not-false (isEnded row) (n .1 .1 .1 .1 .1 .1 .0);
+      }
+
+  pub list-passed : check ≡ K.Passed → Passed v row leads work
+  unfolding checkList
+  list-passed h = none-holds-passed (passed-none-holds (listTests v c row (length leads) (length work)) h)
 
 -- Test 14 never holds
 
@@ -96,15 +112,18 @@ unfolding refused is-accepted
 refused-fails leads work r p = p
 
 module _ (v c : ℕ) (row : List ℤ) (limit : ℕ) (leads work : List ℕ) (s : Summary) (h : closing v c row limit leads work .result ≡ Accepted s) where
-  none-holds : NoneHolds (tests v c row limit leads work)
+  none-holds : NoneHolds (listTests v c row (length leads) (length work))
   unfolding closing is-accepted
-  none-holds = decide-none-holds (refused leads work) (closeRounds v row limit leads work) Passes (refused-fails leads work) (tests v c row limit leads work) (rw h tt)
+  none-holds = decide-none-holds (refused leads work) (closeRounds v row limit leads work) Passes (refused-fails leads work) (listTests v c row (length leads) (length work)) (rw h tt)
+
+  pub accepted-passed : Passed v row leads work
+  accepted-passed = none-holds-passed v c row leads work none-holds
 
   pub accepted-fits : Fits v (clausesOf row)
-  accepted-fits = none-holds-fits v c row limit leads work none-holds
+  accepted-fits = none-holds-fits v c row (length leads) (length work) none-holds
 
   pub accepted-outcome : closing v c row limit leads work ≡ accepted v leads work (answer v (clausesOf row) limit)
   unfolding closing
   accepted-outcome =
-      decide-accepted (refused leads work) (closeRounds v row limit leads work) (tests v c row limit leads work) none-holds
+      decide-accepted (refused leads work) (closeRounds v row limit leads work) (listTests v c row (length leads) (length work)) none-holds
       ∙ rounds-accepted v row limit leads work accepted-fits

@@ -16,20 +16,20 @@ use Rattle.clauses.specs.Renaming.{Renames, Images}
 use Rattle.clauses.specs.declared.refusal.Refusal.{Refusal}
 use Rattle.clauses.specs.declared.refusal.Refusal.the-variants.{TooManyRounds}
 use Rattle.clauses.proofs.Deciding.{NoneHolds, decide-has}
-use Rattle.closure.specs.declared.Verdict.{Verdict}
-use Rattle.closure.specs.declared.Verdict.the-variants.{Contradiction, Settled}
+use Rattle.rules.specs.declared.Verdict.{Verdict}
+use Rattle.rules.specs.declared.Verdict.the-variants.{Contradiction, Settled}
 use Rattle.closure.specs.declared.close.Summary.{Summary}
 use Rattle.closure.specs.declared.close.Closing.the-variants.{Accepted, Refused}
-use Rattle.closure.specs.Grouping.{After}
-use Rattle.closure.specs.Answer.{Answer, Leads, on-contradiction, otherwise, noLead, IsAnswer, Joined}
-use Rattle.closure.specs.Assignment.{Assignment, Satisfies}
-use Rattle.closure.specs.Renaming.{Renamed}
-use Rattle.closure.specs.Compute.{answer}
-use Rattle.closure.specs.Closing.{Outcome, refused, summary, accepted, closeRounds, closing, Answers}
-use Rattle.closure.proofs.Theorems.{answer-exact, answer-joined, answer-true, contradiction-true, settled-bound, rounds-bound, demand-three}
-use Rattle.closure.proofs.ClosingTests.{tests, none-holds-fits, rounds-accepted, accepted-fits, accepted-outcome}
+use Rattle.rules.specs.Grouping.{After}
+use Rattle.rules.specs.Answer.{Answer, Leads, on-contradiction, otherwise, noLead, IsAnswer, Joined}
+use Rattle.rules.specs.Assignment.{Assignment, Satisfies}
+use Rattle.rules.specs.Renaming.{Renamed}
+use Rattle.rules.specs.Compute.{answer}
+use Rattle.closure.specs.Closing.{listTests, Outcome, refused, summary, accepted, closeRounds, closing, Answers}
+use Rattle.rules.proofs.Theorems.{answer-exact, answer-joined, answer-true, contradiction-true, settled-bound, rounds-bound, answer-beyond, demand-three}
+use Rattle.closure.proofs.ClosingTests.{none-holds-fits, rounds-accepted, accepted-fits, accepted-outcome}
 
-leads-length : {v : ℕ} {G : ℕ → ℕ → Type 0} {w : Verdict} {g : ℕ} {l : List ℕ} → Leads v G w g l → length l ≡ v
+pub leads-length : {v : ℕ} {G : ℕ → ℕ → Type 0} {w : Verdict} {g : ℕ} {l : List ℕ} → Leads v G w g l → length l ≡ v
 leads-length {v} on-contradiction = length-replicate v noLead
 leads-length (otherwise d s f) = s
 
@@ -110,6 +110,13 @@ module _ (v c : ℕ) (row : List ℤ) (limit : ℕ) (leads work : List ℕ) (a :
   pub closing-bound : a .rounds ≤ suc v
   closing-bound = subst⁻¹ (λ (b : Answer). b .rounds ≤ suc v) answers-is (rounds-bound v cs fit limit)
 
+-- Every round limit from V + 1 up has the same answer, whatever the rows held.
+pub closing-beyond : (v c : ℕ) (row : List ℤ) (limit more : ℕ) (leads work leads′ work′ : List ℕ) (a b : Answer)
+    → v < limit → limit ≤ more → Answers v c row limit leads work a → Answers v c row more leads′ work′ b → a ≡ b
+closing-beyond v c row limit more leads work leads′ work′ a b h k p q =
+    answers-is v c row limit leads work a p ∙ answer-beyond v (clausesOf row) (fit v c row limit leads work a p) limit more h k
+    ∙ sym (answers-is v c row more leads′ work′ b q)
+
 -- Demand 3: two lists that closing accepts, the clauses of one being the images of the other's under one renaming, have answers that differ by
 -- the renaming alone.
 pub closing-renamed : (v c d limit : ℕ) (row sow : List ℤ) (leads work leads′ work′ : List ℕ) (a b : Answer) (ρ : ℕ → ℕ)
@@ -123,7 +130,7 @@ closing-renamed v c d limit row sow leads work leads′ work′ a b ρ h k ren i
 pub never-fourteen : (v c : ℕ) (row : List ℤ) (limit : ℕ) (leads work : List ℕ) → closing v c row limit leads work .result ≢ Refused TooManyRounds
 unfolding closing refused accepted
 never-fourteen v c row limit leads work =
-    decide-has (refused leads work) (closeRounds v row limit leads work) Other (tests v c row limit leads work) (λ t k e. early (t .refusal) (below t k) e) late
+    decide-has (refused leads work) (closeRounds v row limit leads work) Other (listTests v c row (length leads) (length work)) (λ t k e. early (t .refusal) (below t k) e) late
   where
     Other : Outcome → Type 0
     Other o = o .result ≢ Refused TooManyRounds
@@ -131,7 +138,7 @@ never-fourteen v c row limit leads work =
     early : (r : Refusal) → numberOf r ≤ 12 → Refused r ≡ Refused TooManyRounds → ⊥
     early r h e = let same : r ≡ TooManyRounds = cc in omega (arith, ap numberOf same)
 
-    below : (t : Test) → List·Memᴰ t (tests v c row limit leads work) → numberOf (t .refusal) ≤ 12
+    below : (t : Test) → List·Memᴰ t (listTests v c row (length leads) (length work)) → numberOf (t .refusal) ≤ 12
     below t (List·Memᴰ·head e) = rw e (omega arith)
     below t (List·Memᴰ·tail (List·Memᴰ·head e)) = rw e (omega arith)
     below t (List·Memᴰ·tail (List·Memᴰ·tail (List·Memᴰ·head e))) = rw e (omega arith)
@@ -144,5 +151,5 @@ never-fourteen v c row limit leads work =
         entries t (List·Memᴰ·tail (List·Memᴰ·head e)) = rw e (omega arith)
         entries t (List·Memᴰ·tail (List·Memᴰ·tail (List·Memᴰ·head e))) = rw e (omega arith)
 
-    late : NoneHolds (tests v c row limit leads work) → Other (closeRounds v row limit leads work)
-    late n = rw (rounds-accepted v row limit leads work (none-holds-fits v c row limit leads work n)) (λ e. let z : _≡_ {A = ℕ} 0 1 = cc in omega arith)
+    late : NoneHolds (listTests v c row (length leads) (length work)) → Other (closeRounds v row limit leads work)
+    late n = rw (rounds-accepted v row limit leads work (none-holds-fits v c row (length leads) (length work) n)) (λ e. let z : _≡_ {A = ℕ} 0 1 = cc in omega arith)

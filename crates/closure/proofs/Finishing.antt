@@ -10,16 +10,11 @@ use native.Mathlib.Nat.{le-trans}
 use lib.IntN.{ℤ, pos, negsuc, natAbs}
 use lib.ListN.{length, getD, take, drop, replicate}
 use lib.Seq.{sets}
-use borrow.Author.Tests.{ltb-false, eqb-true, not-false}
+use borrow.Author.Tests.{eqb-true}
 use Rattle.clauses.specs.Limit.{maxNets}
-use Rattle.clauses.specs.Refusal.{firstOver, isEnded, entryTooLarge, notEnded, clauseCount}
-use Rattle.clauses.specs.Tally.{tallyOf}
-use Rattle.clauses.specs.Check.{checkEntries}
-use Rattle.clauses.specs.declared.checks.Check.{Check}
-use Rattle.clauses.specs.declared.checks.Check.the-variants as K
+use Rattle.clauses.specs.Refusal.{firstOver, isEnded}
 use Rattle.clauses.specs.Code.{codeOf}
 use Rattle.clauses.specs.Clause.{clausesIn, clausesOf, Present}
-use Rattle.clauses.proofs.Deciding.{decide-none-holds}
 use Rattle.clauses.proofs.Fitting.{entries-fit}
 use Rattle.clauses.proofs.PrintedText.{within-head, within-tail}
 use Rattle.clauses.specs.Listing.{Fits}
@@ -29,13 +24,13 @@ use Rattle.gates.specs.Normal.{normalRow, SmallEntries}
 use Rattle.gates.proofs.NormalForm.{firsts-same, normal-has, normal-clauses, normal-present, normal-length, normal-part}
 use Rattle.gates.proofs.Counting.{same-with, counted-once}
 use Rattle.gates.proofs.Counted.{ands-counted, xors-counted, ites-counted}
-use Rattle.closure.specs.declared.Verdict.{Verdict}
+use Rattle.rules.specs.declared.Verdict.{Verdict}
 use Rattle.closure.specs.declared.close.Closing.the-variants.{Accepted}
-use Rattle.closure.specs.Answer.{Answer, own}
-use Rattle.closure.specs.Compute.{ended, closed, tally, answer}
+use Rattle.rules.specs.Answer.{Answer, own}
+use Rattle.rules.specs.Compute.{ended, closed, tally, answer}
 use Rattle.closure.specs.Closing.{maxWork, summary, accepted, closeRounds}
 use Rattle.closure.specs.Passed.{Passed, ClosedTo}
-use Rattle.closure.proofs.SameLists.{closed-same}
+use Rattle.rules.proofs.SameLists.{closed-same}
 use Rattle.closure.proofs.SameGates.{found-same}
 use Rattle.closure.proofs.ClosingTests.{never-too-many, rounds-accepted}
 
@@ -101,14 +96,6 @@ ended-zero (z ∷ y ∷ row) e =
 pub passed-findable : (v : ℕ) (row : List ℤ) (leads work : List ℕ) → Passed v row leads work
     → SmallEntries row × (getD (map codeOf row) (length row - 1) 0 ≡ 0)
 passed-findable v row leads work p = (small-entries v row (p .within) (p .nets), ended-zero row (p .ended))
-
--- tests 10 to 12 pass
-pub entries-upright : (v c : ℕ) (row : List ℤ) → checkEntries c (tallyOf v row) ≡ K.Passed → (length row ≤ firstOver v row) × (isEnded row ≡ true)
-unfolding checkEntries tallyOf
-entries-upright v c row h =
-    let n = decide-none-holds K.Refused K.Passed (λ (k : Check). k ≡ K.Passed) (λ r e. let z : _≡_ {A = ℕ} 0 1 = cc in omega arith)
-    (entryTooLarge v row ∷ notEnded row ∷ clauseCount c row ∷ []) h in
-    (ltb-false _ _ (n .0), not-false (isEnded row) (n .1 .0))
 
 -- what the finder has left at the start of two rows
 pub record Left (v : ℕ) (row : List ℤ) (codes marks : List ℕ) (n : ℕ) : Type 0 where

@@ -7,9 +7,9 @@ use Prim.Native.Nat.{ℕ, _≤_, _<_}
 use lib.ListN.{length}
 use Rattle.clauses.specs.Code.{negate, net}
 use Rattle.clauses.proofs.Codes.{negate-other}
-use Rattle.closure.specs.Rule.{Concludes}
-use Rattle.closure.specs.Grouping.{Closure}
-use Rattle.closure.specs.Answer.{leadOf}
+use Rattle.rules.specs.Rule.{Concludes}
+use Rattle.rules.specs.Grouping.{Closure}
+use Rattle.rules.specs.Answer.{leadOf}
 use Rattle.closure.specs.Making.{Kernel, Drawn, Making, JoinedBy}
 use Rattle.closure.specs.Joining.{joinState}
 use Rattle.closure.specs.declared.tally.Tally.{Tally}

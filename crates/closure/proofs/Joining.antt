@@ -12,10 +12,10 @@ use Rattle.clauses.specs.Code.{negate, net}
 use Rattle.gates.specs.Sign.{flip, isInverse}
 use Rattle.gates.proofs.Signs.{code-split}
 use Rattle.closure.specs.declared.tally.Tally.{Tally}
-use Rattle.closure.specs.Answer.{leadOf}
-use Rattle.closure.specs.Compute.{replace}
+use Rattle.rules.specs.Answer.{leadOf}
+use Rattle.rules.specs.Compute.{replace}
 use Rattle.closure.specs.Joining.{fewer, joinState}
-use Rattle.closure.proofs.Closing.{any-default}
+use Rattle.rules.proofs.Closing.{any-default}
 
 -- Leads read from a row
 

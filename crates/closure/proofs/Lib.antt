@@ -1,9 +1,3 @@
-pub mod RenamedRules
-pub mod Groupings
-pub mod Endings
-pub mod Leads
-pub mod Merging
-pub mod Cancelling
 pub mod OddNets
 pub mod Tables
 pub mod XorItems
@@ -12,17 +6,6 @@ pub mod XorRules
 pub mod XorRests
 pub mod XorSteps
 pub mod XorPass
-pub mod ConclusionsSound
-pub mod ConclusionsComplete
-pub mod Rounds
-pub mod Closing
-pub mod Groups
-pub mod Answers
-pub mod Truth
-pub mod Bounds
-pub mod RenamedAnswers
-pub mod Starred
-pub mod Theorems
 pub mod JoinedBy
 pub mod Searches
 pub mod Clauses
@@ -35,7 +18,6 @@ pub mod Maps
 pub mod Joining
 pub mod Making
 pub mod RoundsMade
-pub mod SameLists
 pub mod SameGates
 pub mod Running
 pub mod ClosingTests
@@ -44,3 +26,4 @@ pub mod ClosingTheorems
 pub mod Chains
 pub mod SideSteps
 pub mod SideMatching
+pub mod WithoutGates

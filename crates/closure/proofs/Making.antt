@@ -16,17 +16,17 @@ use Rattle.clauses.proofs.Distinct.{Distinct, more, pigeonhole}
 use Rattle.clauses.proofs.Codes.{net-double, negate-negate}
 use Rattle.gates.specs.Sign.{flip, isInverse}
 use Rattle.gates.proofs.Signs.{plain-net}
-use Rattle.closure.specs.Rule.{Concludes}
-use Rattle.closure.specs.Grouping.{Closure, Next}
-use Rattle.closure.specs.Answer.{leadOf, own}
-use Rattle.closure.specs.Compute.{by-leads, everything, replace, joinLeads}
+use Rattle.rules.specs.Rule.{Concludes}
+use Rattle.rules.specs.Grouping.{Closure, Next}
+use Rattle.rules.specs.Answer.{leadOf, own}
+use Rattle.rules.specs.Compute.{by-leads, everything, replace, joinLeads}
 use Rattle.closure.specs.declared.tally.Tally.{Tally}
 use Rattle.closure.specs.Making.{Kernel, Drawn, Making, JoinedBy, Later, Rule1, Rule2, Rule3, Rule4, Rule5, Rule6, Rule7, Rule8, Rules}
 use Rattle.closure.specs.Joining.{State, fewer, joinState}
-use Rattle.closure.proofs.Leads.{Canonical, Replaced, as-lead, as-inverse, kept, replaced, replace-is, lead-flip}
-use Rattle.closure.proofs.Merging.{Sound, Merged, Outcome, lead-merged, join-step}
-use Rattle.closure.proofs.Rounds.{concludes-high}
-use Rattle.closure.proofs.Groups.{own-is, is-own, own-distinct, own-length}
+use Rattle.rules.proofs.Leads.{Canonical, Replaced, as-lead, as-inverse, kept, replaced, replace-is, lead-flip}
+use Rattle.rules.proofs.Merging.{Sound, Merged, Outcome, lead-merged, join-step}
+use Rattle.rules.proofs.Rounds.{concludes-high}
+use Rattle.rules.proofs.Groups.{own-is, is-own, own-distinct, own-length}
 use Rattle.closure.proofs.Joining.{join-clashed, join-same, join-inverses, join-lower, join-higher}
 
 -- Groups
@@ -108,7 +108,7 @@ module _ {cs : List (List ℕ)} {old row row′ : List ℕ} {t t′ : Tally} (l 
   rule2-later : Rule2 cs old row t → Rule2 cs old row′ t′
   rule2-later r = record { equal = λ a b p q. l _ _ (r .equal a b p q) }
 
-  rule3-later : Rule3 cs old row t → Rule3 cs old row′ t′
+  pub rule3-later : Rule3 cs old row t → Rule3 cs old row′ t′
   rule3-later r =
       record {
         and-false = λ c o i g h e. l _ _ (r .and-false c o i g h e);
@@ -241,26 +241,23 @@ conclusion-joined cs old row t m fit a b h =
 -- The rules, one after the other
 
 module _ (cs : List (List ℕ)) (old : List ℕ) (row₁ : List ℕ) (t₁ : Tally) (row₂ : List ℕ) (t₂ : Tally) (row₃ : List ℕ) (t₃ : Tally) (row₄ : List ℕ) (t₄ : Tally)
-    (row₅ : List ℕ) (t₅ : Tally) (l₂ : Later row₁ t₁ row₂ t₂) (l₃ : Later row₂ t₂ row₃ t₃) (l₄ : Later row₃ t₃ row₄ t₄) (l₅ : Later row₄ t₄ row₅ t₅) where
-  pub rules-gathered : Rule1 cs old row₁ t₁ → Rule2 cs old row₁ t₁ → Rule3 cs old row₂ t₂ → Rule4 cs old row₃ t₃ → Rule5 cs old row₄ t₄ → Rule6 cs old row₄ t₄
-      → Rule7 cs old row₅ t₅ → Rule8 cs old row₅ t₅ → Rules cs old row₅ t₅
+    (l₂ : Later row₁ t₁ row₂ t₂) (l₃ : Later row₂ t₂ row₃ t₃) (l₄ : Later row₃ t₃ row₄ t₄) where
+  pub rules-gathered : Rule1 cs old row₁ t₁ → Rule2 cs old row₁ t₁ → Rule3 cs old row₂ t₂ → Rule4 cs old row₂ t₂ → Rule5 cs old row₃ t₃ → Rule6 cs old row₃ t₃
+      → Rule7 cs old row₄ t₄ → Rule8 cs old row₄ t₄ → Rules cs old row₄ t₄
   rules-gathered a b c d e f g h =
       record {
         one = rule1-later from-1 a;
         two = rule2-later from-1 b;
         three = rule3-later from-2 c;
-        four = rule4-later from-3 d;
-        five = rule5-later l₅ e;
-        six = rule6-later l₅ f;
+        four = rule4-later from-2 d;
+        five = rule5-later l₄ e;
+        six = rule6-later l₄ f;
         seven = g;
         eight = h;
       }
     where
-      from-3 : Later row₃ t₃ row₅ t₅
-      from-3 = later-trans row₃ t₃ row₄ t₄ row₅ t₅ l₄ l₅
+      from-2 : Later row₂ t₂ row₄ t₄
+      from-2 = later-trans row₂ t₂ row₃ t₃ row₄ t₄ l₃ l₄
 
-      from-2 : Later row₂ t₂ row₅ t₅
-      from-2 = later-trans row₂ t₂ row₃ t₃ row₅ t₅ l₃ from-3
-
-      from-1 : Later row₁ t₁ row₅ t₅
-      from-1 = later-trans row₁ t₁ row₂ t₂ row₅ t₅ l₂ from-2
+      from-1 : Later row₁ t₁ row₄ t₄
+      from-1 = later-trans row₁ t₁ row₂ t₂ row₄ t₄ l₂ from-2

@@ -18,7 +18,7 @@ use Rattle.gates.specs.Sign.{plus, isInverse, parity}
 use Rattle.gates.proofs.Signs.{plus-cancel, plus-assoc, plus-comm}
 use Rattle.closure.specs.Xors.{toggled, oddNets, packed, Digits, none, more, oddSign, restOf}
 use Rattle.closure.specs.declared.nets.Rest.{Rest}
-use Rattle.closure.proofs.Cancelling.{leads-to}
+use Rattle.rules.proofs.Cancelling.{leads-to}
 
 -- How a net is toggled
 

@@ -7,17 +7,17 @@ use mathlib.Core.List.{List}
 use Prim.Native.Nat.{ℕ, suc, _+_, _<_}
 use native.Mathlib.Omega.{arith}
 use lib.ListN.{length}
-use Rattle.closure.specs.Rule.{Concludes}
-use Rattle.closure.specs.Grouping.{Next, After}
-use Rattle.closure.specs.Ending.{Still, Clash}
-use Rattle.closure.specs.Answer.{leadOf, own}
+use Rattle.rules.specs.Rule.{Concludes}
+use Rattle.rules.specs.Grouping.{Next, After}
+use Rattle.rules.specs.Ending.{Still, Clash}
+use Rattle.rules.specs.Answer.{leadOf, own}
 use Rattle.closure.specs.declared.tally.Tally.{Tally}
 use Rattle.closure.specs.Making.{Kernel, Drawn, Making, JoinedBy, Rules}
-use Rattle.closure.proofs.Groupings.{after-grows, concludes-more, closure-more}
-use Rattle.closure.proofs.Leads.{Canonical, kernel-closed}
-use Rattle.closure.proofs.Rounds.{Row}
-use Rattle.closure.proofs.Closing.{row-unique}
-use Rattle.closure.proofs.Groups.{still-or-fewer}
+use Rattle.rules.proofs.Groupings.{after-grows, concludes-more, closure-more}
+use Rattle.rules.proofs.Leads.{Canonical, kernel-closed}
+use Rattle.rules.proofs.Rounds.{Row}
+use Rattle.rules.proofs.Closing.{row-unique}
+use Rattle.rules.proofs.Groups.{still-or-fewer}
 
 conclusions-joined : {cs : List (List ℕ)} {old row : List ℕ} {t : Tally} → Rules cs old row t → {a b : ℕ} → Concludes cs (Kernel old) a b → JoinedBy row t a b
 conclusions-joined r (Concludes.unit p m o) = r .one .unit _ _ p m o

@@ -1,29 +1,31 @@
 -- Rounds that are made one after the other: what holds before each of them, and how they end.
 -- Assumes nothing.
-use mathlib.Core.Path.{_≡_, refl, sym, ap, subst, subst⁻¹}
+use mathlib.Core.Path.{_≡_, refl, sym, _∙_, ap, subst, subst⁻¹}
 use mathlib.Core.Logic.{_≢_, _⊎_, inl, inr}
-use mathlib.Core.Bool.{true, false, true≢false}
+use mathlib.Core.Bool.{Bool, true, false, not, true≢false, _&&_}
 use mathlib.Core.List.{List, List·Memᴰ}
 use Prim.Native.Nat.{ℕ, suc, _+_, _*_, _≤_, _<_}
 use native.Mathlib.Omega.{arith}
 use native.Mathlib.Nat.{not-suc-le-zero, le-of-suc-le-suc}
 use native.Mathlib.Numerals.{add-one}
+use lib.Dec.{eqb}
 use lib.ListN.{length, replicate}
+use borrow.Author.Tests.{eq-eqb, eqb-true, not-true}
 use Rattle.clauses.specs.Lists.{from}
 use Rattle.clauses.specs.Listing.{Fits}
-use Rattle.clauses.proofs.Lists.{from-low, from-length}
+use Rattle.clauses.proofs.Lists.{and-both, from-low, from-length}
 use Rattle.clauses.proofs.Distinct.{from-distinct}
 use Rattle.gates.specs.Count.{netsOf}
-use Rattle.closure.specs.declared.Verdict.the-variants.{Contradiction, Settled, Unfinished}
+use Rattle.rules.specs.declared.Verdict.the-variants.{Contradiction, Settled, Unfinished}
 use Rattle.closure.specs.declared.tally.Tally.{Tally}
-use Rattle.closure.specs.Grouping.{Closure, After}
-use Rattle.closure.specs.Ending.{Still}
-use Rattle.closure.specs.Answer.{own, noLead}
-use Rattle.closure.specs.Compute.{ended, closed}
+use Rattle.rules.specs.Grouping.{Closure, After}
+use Rattle.rules.specs.Ending.{Still}
+use Rattle.rules.specs.Answer.{own, noLead}
+use Rattle.rules.specs.Compute.{ended, closed}
 use Rattle.closure.specs.Making.{Making, fresh, Rules}
-use Rattle.closure.proofs.Rounds.{Row}
-use Rattle.closure.proofs.Closing.{up-to, no-clash, settles, clashes, stops, first-lead, first-is, closed-is}
-use Rattle.closure.proofs.Groups.{is-own, own-length, own-none}
+use Rattle.rules.proofs.Rounds.{Row}
+use Rattle.rules.proofs.Closing.{up-to, no-clash, settles, clashes, stops, first-lead, first-is, closed-is}
+use Rattle.rules.proofs.Groups.{is-own, own-length, own-none}
 use Rattle.closure.proofs.Making.{within-length}
 use Rattle.closure.proofs.RoundsMade.{clash-after, row-after, still-after, moved-after}
 
@@ -36,6 +38,28 @@ own-first v = le-both (subst (λ (n : ℕ). n ≤ length (own v (netsOf v))) (fr
 
     all : (w : ℕ) → List·Memᴰ w (from 1 v) → List·Memᴰ w (own v (netsOf v))
     all w k = let b = from-low 1 v w k in is-own v (netsOf v) w (first-lead v (2 * w)) (omega arith) (omega arith)
+
+-- a round that joins nothing, by its tally
+
+module _ (t : Tally) where
+  pub still-joins : t .clash ≡ false → eqb (t .joins) 0 ≡ (not (t .clash) && eqb (t .joins) 0)
+  still-joins c = rw (c)
+
+  pub still-clash : t .clash ≡ true → false ≡ (not (t .clash) && eqb (t .joins) 0)
+  still-clash c = rw (c)
+
+  pub still-is : (not (t .clash) && eqb (t .joins) 0) ≡ true → (t .clash ≡ false) × (t .joins ≡ 0)
+  still-is h = let p = and-both _ _ h in (not-true _ (p .0), eqb-true (t .joins) 0 (p .1))
+
+  pub moved-joins : (not (t .clash) && eqb (t .joins) 0) ≡ false → t .clash ≡ false → t .joins ≢ 0
+  moved-joins h c e = true≢false (sym (eq-eqb (t .joins) 0 e) ∙ still-joins c ∙ h)
+
+  pub moved-is : (not (t .clash) && eqb (t .joins) 0) ≡ false → (t .clash ≡ true) ⊎ ((t .clash ≡ false) × (t .joins ≢ 0))
+  moved-is h = go (t .clash) refl
+    where
+      go : (b : Bool) → t .clash ≡ b → (t .clash ≡ true) ⊎ ((t .clash ≡ false) × (t .joins ≢ 0))
+      go true e = inl e
+      go false e = inr (e, moved-joins h e)
 
 -- the rounds made so far: the leads after them, as the next ones start, and their groups
 pub record Reached (v : ℕ) (cs : List (List ℕ)) (made : ℕ) (leads next : List ℕ) (groups : ℕ) : Type 0 where

@@ -8,15 +8,17 @@ use Prim.Native.Nat.{ℕ, _+_, _*_, _≤_, _<_}
 use native.Mathlib.Omega.{arith}
 use native.Mathlib.Decide.{ℕ-discrete}
 use lib.Dec.{eqb}
-use lib.ListN.{getD}
+use lib.ListN.{length, getD}
 use borrow.Author.Tests.{eq-eqb, ne-eqb, eqb-true}
 use Rattle.clauses.proofs.Lists.{and-both, not-eqb, eqb-not}
 use Rattle.clauses.specs.Code.{negate, net}
 use Rattle.clauses.proofs.Codes.{negate-negate, net-negate}
+use Rattle.gates.specs.Found.{clauseAt}
 use Rattle.gates.specs.Sign.{flip, isInverse}
+use Rattle.gates.proofs.Rows.{literal-some, clause-ended, clause-fits}
 use Rattle.gates.proofs.Signs.{isInverse-negate}
-use Rattle.closure.specs.Answer.{leadOf}
-use Rattle.closure.specs.Passing.{leadAt, isOther, isWith, First}
+use Rattle.rules.specs.Answer.{leadOf}
+use Rattle.closure.specs.Passing.{leadAt, isOther, isWith, isEnding, First}
 
 pub lead-false : (old : List ℕ) → leadOf old 0 ≡ 0
 unfolding leadOf isInverse
@@ -25,6 +27,17 @@ lead-false old = refl
 pub lead-true : (old : List ℕ) → leadOf old 1 ≡ 1
 unfolding leadOf isInverse
 lead-true old = refl
+
+-- the clause that is walked from a place ends at the first 0
+pub clause-ending : (row : List ℕ) (b : ℕ) → b ≤ length row → First (isEnding row) b (length row) (b + length (clauseAt row b))
+unfolding isEnding
+clause-ending row b h =
+    record {
+      low = omega arith;
+      high = clause-fits row b h;
+      before = λ q k j. ne-eqb (getD row q 0) 0 (literal-some row b q k j);
+      here = λ k. eq-eqb (getD row (b + length (clauseAt row b)) 0) 0 (clause-ended row b);
+    }
 
 -- The test
 

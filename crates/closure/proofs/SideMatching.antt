@@ -17,8 +17,8 @@ use Rattle.clauses.proofs.Lists.{and-both}
 use Rattle.gates.specs.Gate.{IteGate}
 use Rattle.gates.proofs.Signs.{isInverse-negate}
 use Rattle.gates.proofs.ItesListed.{ite-crossed}
-use Rattle.closure.specs.Rule.{Concludes}
-use Rattle.closure.specs.Answer.{leadOf}
+use Rattle.rules.specs.Rule.{Concludes}
+use Rattle.rules.specs.Answer.{leadOf}
 use Rattle.closure.specs.Making.{Kernel, JoinedBy, Rule7, Rule8}
 use Rattle.closure.specs.Joining.{joinState}
 use Rattle.closure.specs.declared.tally.Tally.{Tally}

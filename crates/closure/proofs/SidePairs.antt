@@ -14,7 +14,7 @@ use Rattle.clauses.proofs.Codes.{negate-negate}
 use Rattle.clauses.proofs.Lists.{and-both, both-and, not-eqb, eqb-not}
 use Rattle.gates.specs.Gate.{IteGate}
 use Rattle.gates.proofs.ItesListed.{Four, four-apart, apart-four, ite-crossed}
-use Rattle.closure.specs.Answer.{leadOf}
+use Rattle.rules.specs.Answer.{leadOf}
 use Rattle.closure.specs.Sides.{sideCount, selectAt, outputAt, thenAt, Side, Sides, Pair, isPair, Alike, isAlike}
 
 -- Two sides of one output, with inverse selects and t and e of different nets, are an ITE.

@@ -14,8 +14,8 @@ use Rattle.clauses.proofs.Clauses.{fits-present}
 use Rattle.clauses.proofs.Lists.{in-third}
 use Rattle.gates.specs.Sign.{flip, isInverse}
 use Rattle.gates.proofs.Signs.{isInverse-negate}
-use Rattle.closure.specs.Rule.{Concludes}
-use Rattle.closure.specs.Answer.{leadOf}
+use Rattle.rules.specs.Rule.{Concludes}
+use Rattle.rules.specs.Answer.{leadOf}
 use Rattle.closure.specs.Making.{Kernel, Making, JoinedBy, Later}
 use Rattle.closure.specs.Joining.{State, joinState}
 use Rattle.closure.specs.declared.tally.Tally.{Tally}

@@ -16,13 +16,13 @@ use Rattle.gates.specs.Sign.{plus, flip, isInverse, parity}
 use Rattle.gates.specs.Gate.{XorGate}
 use Rattle.gates.proofs.Signs.{plus-false, plus-self, plus-cancel, flip-flip, flip-plus, plain-net, parity-pick, parity-append}
 use Rattle.gates.proofs.Xors.{xor-front-two}
-use Rattle.closure.specs.Rule.{Cancels, Concludes}
-use Rattle.closure.specs.Grouping.{Closure}
-use Rattle.closure.specs.Answer.{leadOf}
+use Rattle.rules.specs.Rule.{Cancels, Concludes}
+use Rattle.rules.specs.Grouping.{Closure}
+use Rattle.rules.specs.Answer.{leadOf}
 use Rattle.closure.specs.Making.{Kernel, Drawn}
 use Rattle.closure.specs.Xors.{LeadRow, oddNets, oddSign}
-use Rattle.closure.proofs.Leads.{Canonical, Represents}
-use Rattle.closure.proofs.Cancelling.{leads-to, inverse-led, somewhere, even-cancels}
+use Rattle.rules.proofs.Leads.{Canonical, Represents}
+use Rattle.rules.proofs.Cancelling.{leads-to, inverse-led, somewhere, even-cancels}
 use Rattle.closure.proofs.OddNets.{is, odd-parity}
 
 closure-flip : {R : ℕ → ℕ → Type 0} {x y : ℕ} (b : Bool) → Closure R x y → Closure R (flip b x) (flip b y)

@@ -13,7 +13,7 @@ use lib.ListN.{length, getD, replicate, length-replicate, getD-replicate}
 use Rattle.clauses.specs.Clause.{clausesIn}
 use Rattle.gates.specs.Found.{clauseAt, Starts, LiteralAt, isXor}
 use Rattle.gates.specs.Sign.{flip}
-use Rattle.closure.specs.Answer.{leadOf}
+use Rattle.rules.specs.Answer.{leadOf}
 use Rattle.closure.specs.Making.{Making, JoinedBy, Later, Rule5, Rule6}
 use Rattle.closure.specs.Xors.{oddNets, oddSign, packed, others, restOf, Packable, XorAt, restAt, keyAt, sumAt}
 use Rattle.closure.specs.XorMatching.{Ready, Board, Room, Stepped, restAlong, sumAlong, Matched}
@@ -130,6 +130,10 @@ pub record Kept (m m′ : Board) : Type 0 where
   pub next : length (m′ .next) ≡ length (m .next)
   pub heads : length (m′ .heads) ≡ length (m .heads)
 
+kept-on : {m m′ m″ : Board} → Kept m m′ → Kept m′ m″ → Kept m m″
+kept-on s k =
+    record { leads = k .leads ∙ s .leads; keys = k .keys ∙ s .keys; sums = k .sums ∙ s .sums; next = k .next ∙ s .next; heads = k .heads ∙ s .heads }
+
 -- the literals of a clause from place b on are being taken
 pub record Taking (row marks old : List ℕ) (b end : ℕ) (m : Board) (p : Pass) (at : ℕ) (m′ : Board) (p′ : Pass) : Type 0 where
   pub low : b ≤ at
@@ -171,13 +175,7 @@ module _ {row marks old : List ℕ} (ready : Ready row marks old) {b n : ℕ} (s
           high = omega arith;
           matched = d .matched;
           later = λ u v j. d .later u v (t .later u v j);
-          kept = record {
-            leads = k .leads ∙ t .kept .leads;
-            keys = k .keys ∙ t .kept .keys;
-            sums = k .sums ∙ t .kept .sums;
-            next = k .next ∙ t .kept .next;
-            heads = k .heads ∙ t .kept .heads;
-          };
+          kept = kept-on (t .kept) k;
         }
       where
         d : Taken row marks old at m′ p′ m″ p″
@@ -187,52 +185,37 @@ module _ {row marks old : List ℕ} (ready : Ready row marks old) {b n : ℕ} (s
             (ap (λ (i : ℕ). packed (oddNets (leadOf old) (others row at b i))) e)
             (ap (λ (i : ℕ). flip (not (oddSign (leadOf old) (others row at b i))) (getD row at 0)) e) h)
 
--- the table's rows are as long as they were made
-pub record Sized (m : Board) : Type 0 where
-  pub keys : length (m .keys) ≡ 16384
-  pub sums : length (m .sums) ≡ 16384
-  pub next : length (m .next) ≡ 16384
-  pub heads : length (m .heads) ≡ 4093
-
 -- the clauses below place b have been passed, and no clause ends from there to place q
-pub record Passing (row marks old leads : List ℕ) (t : Tally) (b q : ℕ) (m : Board) (p : Pass) : Type 0 where
+pub record Passing (row marks old : List ℕ) (m₀ : Board) (t : Tally) (b q : ℕ) (m : Board) (p : Pass) : Type 0 where
   pub low : b ≤ q
   pub high : q ≤ length row
   pub behind : (b ≡ 0) ⊎ (getD row (b - 1) 0 ≡ 0)
   pub none : (i : ℕ) → b + i < q → getD row (b + i) 0 ≢ 0
   pub matched : Matched row marks old b m p
-  pub later : Later leads t (m .leads) (p .tally)
-  pub size : length (m .leads) ≡ length leads
-  pub sized : Sized m
+  pub later : Later (m₀ .leads) t (m .leads) (p .tally)
+  pub kept : Kept m₀ m
 
-module _ {row marks old : List ℕ} (ready : Ready row marks old) {leads : List ℕ} {t : Tally} where
-  pub passing-begins : Making (clausesIn row) old leads t
-      → Passing row marks old leads t 0 0
-      (record { leads = leads; keys = replicate 16384 0; sums = replicate 16384 0; next = replicate 16384 0; heads = replicate 4093 0 }) (record { tally = t; count = 0 })
-  passing-begins k =
+module _ {row marks old : List ℕ} (ready : Ready row marks old) {m₀ : Board} {t : Tally} where
+  pub passing-begins : Making (clausesIn row) old (m₀ .leads) t → (n : ℕ) → 0 < n → m₀ .heads ≡ replicate n 0
+      → length row ≤ length (m₀ .keys) → length row ≤ length (m₀ .sums) → length (m₀ .keys) ≤ length (m₀ .next)
+      → Passing row marks old m₀ t 0 0 m₀ (record { tally = t; count = 0 })
+  passing-begins k n some e u v w =
       record {
         low = omega arith;
         high = omega arith;
         behind = inl refl;
         none = λ i l. absurd (omega arith);
         matched =
-            pass-begins ready leads (replicate 16384 0) (replicate 16384 0) (replicate 16384 0) (replicate 4093 0) t k (rw (length-replicate {A = ℕ} 4093 0) (omega arith))
-            (λ b h. getD-replicate {A = ℕ} 4093 b 0 0 (rw (length-replicate {A = ℕ} 4093 0) at h)) (rw (length-replicate {A = ℕ} 16384 0) (ready .entries))
-            (rw (length-replicate {A = ℕ} 16384 0) (ready .entries)) (omega arith);
+            pass-begins ready (m₀ .leads) (m₀ .keys) (m₀ .sums) (m₀ .next) (m₀ .heads) t k (rw (e, length-replicate {A = ℕ} n 0) some)
+            (λ b h. rw (e) (getD-replicate {A = ℕ} n b 0 0 (rw (e, length-replicate {A = ℕ} n 0) at h))) u v w;
         later = λ a b j. j;
-        size = refl;
-        sized = record {
-          keys = length-replicate {A = ℕ} 16384 0;
-          sums = length-replicate {A = ℕ} 16384 0;
-          next = length-replicate {A = ℕ} 16384 0;
-          heads = length-replicate {A = ℕ} 4093 0;
-        };
+        kept = record { leads = refl; keys = refl; sums = refl; next = refl; heads = refl };
       }
 
-  module _ {b q : ℕ} {m : Board} {p : Pass} (k : Passing row marks old leads t b q m p) where
+  module _ {b q : ℕ} {m : Board} {p : Pass} (k : Passing row marks old m₀ t b q m p) where
     module _ (more : q < length row) where
       -- no clause ends here
-      pub passing-on : getD row q 0 ≢ 0 → Passing row marks old leads t b (q + 1) m p
+      pub passing-on : getD row q 0 ≢ 0 → Passing row marks old m₀ t b (q + 1) m p
       passing-on n =
           record {
             low = omega (arith, k .low);
@@ -241,8 +224,7 @@ module _ {row marks old : List ℕ} (ready : Ready row marks old) {leads : List 
             none = λ i l. go i (ℕ-discrete (b + i) q) l;
             matched = k .matched;
             later = k .later;
-            size = k .size;
-            sized = k .sized;
+            kept = k .kept;
           }
         where
           go : (i : ℕ) → Dec (b + i ≡ q) → b + i < q + 1 → getD row (b + i) 0 ≢ 0
@@ -261,7 +243,7 @@ module _ {row marks old : List ℕ} (ready : Ready row marks old) {leads : List 
 
       -- a clause ends here, and has been taken
       pub passing-clause : getD row q 0 ≡ 0 → {m′ : Board} {p′ : Pass} → Matched row marks old (b + (q - b)) m′ p′
-          → Later (m .leads) (p .tally) (m′ .leads) (p′ .tally) → Kept m m′ → Passing row marks old leads t (q + 1) (q + 1) m′ p′
+          → Later (m .leads) (p .tally) (m′ .leads) (p′ .tally) → Kept m m′ → Passing row marks old m₀ t (q + 1) (q + 1) m′ p′
       passing-clause e {m′} {p′} h l s =
           record {
             low = omega arith;
@@ -270,13 +252,7 @@ module _ {row marks old : List ℕ} (ready : Ready row marks old) {leads : List 
             none = λ i u. absurd (omega arith);
             matched = end-passed ready e (subst (λ (i : ℕ). Matched row marks old i m′ p′) place h);
             later = λ u v j. l u v (k .later u v j);
-            size = s .leads ∙ k .size;
-            sized = record {
-              keys = s .keys ∙ k .sized .keys;
-              sums = s .sums ∙ k .sized .sums;
-              next = s .next ∙ k .sized .next;
-              heads = s .heads ∙ k .sized .heads;
-            };
+            kept = kept-on (k .kept) s;
           }
         where
           back : q + 1 - 1 ≡ q

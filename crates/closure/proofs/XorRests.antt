@@ -9,7 +9,7 @@ use native.Mathlib.Numerals.{add-one}
 use native.Mathlib.Omega.{arith}
 use lib.ListN.{getD}
 use Rattle.clauses.specs.Code.{net}
-use Rattle.closure.specs.Answer.{leadOf}
+use Rattle.rules.specs.Answer.{leadOf}
 use Rattle.closure.specs.Xors.{oddNets, oddSign, packed, Digits, others, restOf, Packable}
 use Rattle.closure.specs.declared.nets.Rest.{Rest}
 use Rattle.closure.proofs.OddNets.{odd-digits, odd-length, packed-three}

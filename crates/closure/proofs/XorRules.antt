@@ -18,13 +18,13 @@ use Rattle.gates.specs.Gate.{XorGate}
 use Rattle.gates.specs.Found.{clauseAt, Starts, LiteralAt, isXor, Found}
 use Rattle.gates.proofs.Signs.{plus-self, plus-cancel, plus-assoc, plus-comm, flip-flip, flip-plus, net-flip, isInverse-flip, plain-net, parity-pick, parity-append, perm-parity, parity-both, parity-inverted}
 use Rattle.gates.proofs.Xors.{apart-distinct, xor-front, xor-resign, xor-fits}
-use Rattle.closure.specs.Rule.{Cancels}
-use Rattle.closure.specs.Answer.{leadOf}
+use Rattle.rules.specs.Rule.{Cancels}
+use Rattle.rules.specs.Answer.{leadOf}
 use Rattle.closure.specs.Making.{Kernel, Making, JoinedBy, Rule5, Rule6}
 use Rattle.closure.specs.Xors.{LeadRow, toggled, oddNets, oddSign, packed, XorAt, restAt, keyAt, sumAt}
 use Rattle.closure.specs.declared.tally.Tally.{Tally}
-use Rattle.closure.proofs.Leads.{lead-flip}
-use Rattle.closure.proofs.Cancelling.{leads-to, inverse-led, cancels-even, cancels-sign}
+use Rattle.rules.proofs.Leads.{lead-flip}
+use Rattle.rules.proofs.Cancelling.{leads-to, inverse-led, cancels-even, cancels-sign}
 use Rattle.closure.proofs.OddNets.{odd-cases, odd-same}
 use Rattle.closure.proofs.XorItems.{Xored, canonical, represents, sign-append}
 use Rattle.closure.proofs.XorPlaces.{literal-place, literal-mem, others-parity}

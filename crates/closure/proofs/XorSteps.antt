@@ -19,14 +19,14 @@ use Rattle.clauses.proofs.Codes.{net-double}
 use Rattle.clauses.proofs.Lists.{in-first}
 use Rattle.gates.specs.Found.{clauseAt, LiteralAt}
 use Rattle.gates.proofs.Signs.{net-flip}
-use Rattle.closure.specs.Answer.{leadOf}
+use Rattle.rules.specs.Answer.{leadOf}
 use Rattle.closure.specs.Making.{Drawn, Making, JoinedBy, Later}
 use Rattle.closure.specs.Joining.{State, joinState}
 use Rattle.closure.specs.Xors.{oddNets, oddSign, packed, Digits, Packable, XorAt, restAt, keyAt, sumAt}
 use Rattle.closure.specs.XorMatching.{Ready, Board, joinAlone, Again, Entered, Placed, Room, Stepped, Matched}
 use Rattle.closure.specs.declared.tally.Tally.{Tally}
 use Rattle.closure.specs.declared.xors.Pass.{Pass}
-use Rattle.closure.proofs.Groups.{own-length}
+use Rattle.rules.proofs.Groups.{own-length}
 use Rattle.closure.proofs.Making.{Carried, join-makes}
 use Rattle.closure.proofs.OddNets.{odd-bounded, packed-unique, packed-few}
 use Rattle.closure.proofs.XorItems.{Xored, xored-equal, xored-none, xored-one}

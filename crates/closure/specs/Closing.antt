@@ -10,8 +10,10 @@ use Rattle.clauses.specs.Clause.{clausesOf}
 use Rattle.clauses.specs.Refusal.{Test, decide, tooManyNets, tooManyClauses, tooManyEntries, entryTooLarge, notEnded, clauseCount}
 use Rattle.clauses.specs.declared.refusal.Refusal.{Refusal}
 use Rattle.clauses.specs.declared.refusal.Refusal.the-variants.{LeadsTooShort, WorkTooShort, TooManyRounds}
-use Rattle.closure.specs.Answer.{Answer}
-use Rattle.closure.specs.Compute.{answer}
+use Rattle.clauses.specs.declared.checks.Check.{Check}
+use Rattle.clauses.specs.declared.checks.Check.the-variants as K
+use Rattle.rules.specs.Answer.{Answer}
+use Rattle.rules.specs.Compute.{answer}
 use Rattle.closure.specs.declared.close.Summary.{Summary}
 use Rattle.closure.specs.declared.close.Closing.{Closing}
 use Rattle.closure.specs.declared.close.Closing.the-variants.{Accepted, Refused}
@@ -21,12 +23,22 @@ abbrev pub maxWork : ℕ
 maxWork = 16384
 
 -- 8. 'The lead row has fewer than V entries.'
-abbrev pub leadsTooShort : ℕ → List ℕ → Test
-leadsTooShort v leads = record { holds = ltb (length leads) v; refusal = LeadsTooShort }
+abbrev pub leadsTooShort : ℕ → ℕ → Test
+leadsTooShort v entries = record { holds = ltb entries v; refusal = LeadsTooShort }
 
 -- 9. 'The work row has fewer than 16,384 entries.'
-abbrev pub workTooShort : List ℕ → Test
-workTooShort work = record { holds = ltb (length work) maxWork; refusal = WorkTooShort }
+abbrev pub workTooShort : ℕ → Test
+workTooShort entries = record { holds = ltb entries maxWork; refusal = WorkTooShort }
+
+-- tests 5 to 12, of V, C, a literal row and the numbers of entries that the lead row and the work row have
+abbrev pub listTests : ℕ → ℕ → List ℤ → ℕ → ℕ → List Test
+listTests v c row leads work =
+    tooManyNets v ∷ tooManyClauses c ∷ tooManyEntries row ∷ leadsTooShort v leads ∷ workTooShort work
+    ∷ entryTooLarge v row ∷ notEnded row ∷ clauseCount c row ∷ []
+
+-- whether a list passes them
+unfoldable pub checkList : ℕ → ℕ → List ℤ → ℕ → ℕ → Check
+checkList v c row leads work = decide K.Refused K.Passed (listTests v c row leads work)
 
 -- 14. 'More than V + 1 rounds have been made; only rounds of the closing rules within the limit that change the grouping count, and idle ones
 -- never do.' These are the answer's rounds.
@@ -63,9 +75,7 @@ closeRounds v row limit leads work =
 -- 'closing 5 to 12 and 14', of V, C, a literal row, a round limit, a lent lead row and a lent work row
 unfoldable pub closing : ℕ → ℕ → List ℤ → ℕ → List ℕ → List ℕ → Outcome
 closing v c row limit leads work =
-    decide (refused leads work) (closeRounds v row limit leads work)
-    (tooManyNets v ∷ tooManyClauses c ∷ tooManyEntries row ∷ leadsTooShort v leads ∷ workTooShort work
-    ∷ entryTooLarge v row ∷ notEnded row ∷ clauseCount c row ∷ [])
+    decide (refused leads work) (closeRounds v row limit leads work) (listTests v c row (length leads) (length work))
 
 -- closing accepts the list and answers a: its leads are the first V codes of the lead row
 pub record Answers (v c : ℕ) (row : List ℤ) (limit : ℕ) (leads work : List ℕ) (a : Answer) : Type 0 where

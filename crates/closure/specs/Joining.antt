@@ -5,8 +5,8 @@ use mathlib.Core.List.{List, map}
 use Prim.Native.Nat.{ℕ, _+_, _-_}
 use lib.Dec.{eqb, ltb}
 use Rattle.clauses.specs.Code.{net}
-use Rattle.closure.specs.Answer.{leadOf}
-use Rattle.closure.specs.Compute.{replace}
+use Rattle.rules.specs.Answer.{leadOf}
+use Rattle.rules.specs.Compute.{replace}
 use Rattle.closure.specs.declared.tally.Tally.{Tally}
 
 -- a row of leads and its tally

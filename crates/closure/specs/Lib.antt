@@ -1,11 +1,3 @@
-pub mod Rule
-pub mod Grouping
-pub mod Ending
-pub mod Answer
-pub mod Compute
-pub mod Assignment
-pub mod Renaming
-pub mod Starred
 pub mod Making
 pub mod Passing
 pub mod Sides
@@ -16,3 +8,4 @@ pub mod Passed
 pub mod Xors
 pub mod Table
 pub mod XorMatching
+pub mod Scratch

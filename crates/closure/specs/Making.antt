@@ -10,9 +10,9 @@ use Rattle.clauses.specs.Code.{negate, net}
 use Rattle.clauses.specs.Clause.{Mem, Present}
 use Rattle.gates.specs.Sign.{plus, flip}
 use Rattle.gates.specs.Gate.{Input, AndGate, XorGate, IteGate}
-use Rattle.closure.specs.Rule.{Cancels, Covers}
-use Rattle.closure.specs.Grouping.{Closure, Next}
-use Rattle.closure.specs.Answer.{leadOf, own}
+use Rattle.rules.specs.Rule.{Cancels, Covers}
+use Rattle.rules.specs.Grouping.{Closure, Next}
+use Rattle.rules.specs.Answer.{leadOf, own}
 use Rattle.closure.specs.declared.tally.Tally.{Tally}
 
 -- a and b have one lead

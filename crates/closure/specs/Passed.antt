@@ -8,10 +8,10 @@ use lib.IntN.{ℤ}
 use lib.ListN.{length, drop}
 use Rattle.clauses.specs.Limit.{maxNets, maxEntries}
 use Rattle.clauses.specs.Refusal.{firstOver, isEnded}
-use Rattle.closure.specs.Answer.{own}
-use Rattle.closure.specs.Compute.{ended, closed}
+use Rattle.rules.specs.Answer.{own}
+use Rattle.rules.specs.Compute.{ended, closed}
 use Rattle.closure.specs.Closing.{maxWork}
-use Rattle.closure.specs.declared.Verdict.{Verdict}
+use Rattle.rules.specs.declared.Verdict.{Verdict}
 
 -- what tests 5 to 12 leave: the limits, the room, the entries of nets 1 to V and the 0 at the end
 pub record Passed (v : ℕ) (row : List ℤ) (leads work : List ℕ) : Type 0 where

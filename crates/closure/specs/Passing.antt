@@ -12,7 +12,7 @@ use Rattle.clauses.specs.Code.{negate}
 use Rattle.clauses.specs.Clause.{Mem, Present}
 use Rattle.gates.specs.Gate.{Input}
 use Rattle.gates.specs.Found.{clauseAt, Starts, LiteralAt, isPair}
-use Rattle.closure.specs.Answer.{leadOf}
+use Rattle.rules.specs.Answer.{leadOf}
 use Rattle.closure.specs.Making.{Kernel, Making, JoinedBy, Later}
 use Rattle.closure.specs.declared.tally.Tally.{Tally}
 

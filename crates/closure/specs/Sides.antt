@@ -12,7 +12,7 @@ use Rattle.clauses.specs.Code.{negate, net}
 use Rattle.clauses.specs.Listing.{Fits}
 use Rattle.gates.specs.Gate.{IteGate}
 use Rattle.gates.specs.Found.{clauseAt, Starts, LiteralAt, around, isSelectNext, isSelectAfter}
-use Rattle.closure.specs.Answer.{leadOf}
+use Rattle.rules.specs.Answer.{leadOf}
 use Rattle.closure.specs.Making.{Kernel, Making, JoinedBy, Later}
 use Rattle.closure.specs.declared.tally.Tally.{Tally}
 

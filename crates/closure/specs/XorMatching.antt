@@ -11,7 +11,7 @@ use Rattle.clauses.specs.Clause.{clausesIn}
 use Rattle.clauses.specs.Listing.{Fits}
 use Rattle.gates.specs.Sign.{flip}
 use Rattle.gates.specs.Found.{Found}
-use Rattle.closure.specs.Answer.{leadOf}
+use Rattle.rules.specs.Answer.{leadOf}
 use Rattle.closure.specs.Making.{Making, JoinedBy}
 use Rattle.closure.specs.Joining.{State, joinState}
 use Rattle.closure.specs.Xors.{LeadRow, XorAt, keyAt, sumAt, others, restOf}

@@ -10,7 +10,7 @@ use lib.ListN.{length, getD}
 use Rattle.clauses.specs.Code.{negate, net}
 use Rattle.gates.specs.Sign.{flip, isInverse, parity}
 use Rattle.gates.specs.Found.{clauseAt, LiteralAt, isXor}
-use Rattle.closure.specs.Answer.{leadOf}
+use Rattle.rules.specs.Answer.{leadOf}
 use Rattle.closure.specs.declared.nets.Rest.{Rest}
 
 -- a row of leads: a lead leads itself, and is of the lowest net of its group

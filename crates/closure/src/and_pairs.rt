@@ -1,8 +1,7 @@
 // Rule 4: ANDs with equal sets of input leads, matched by a table of those that came first with their set.
 
-ghost use mathlib.Core.Path.{_≡_};
-ghost use Prim.Native.Nat.{ℕ, _+_, _≤_, _<_};
-ghost use lib.ListN.{length, getD};
+ghost use Prim.Native.Nat.{_+_, _≤_, _<_};
+ghost use lib.ListN.{length};
 ghost use Rattle.clauses.specs.Clause.{clausesIn};
 ghost use Rattle.clauses.specs.Listing.{Fits};
 ghost use Rattle.gates.specs.Found.{Found};
@@ -12,6 +11,10 @@ ghost use Rattle.closure.specs.Matching.{Table, Told, Matched};
 use crate::and_sets::bucket;
 use crate::and_sets::is_alike;
 use crate::tally::Tally;
+use gates::fill::fill;
+
+// Buckets of the table.
+const BUCKETS: usize = 4096;
 
 // What a search for the set of an AND tells: there is no AND; the AND at this place has its set; it is the first one, of this
 // bucket.
@@ -77,7 +80,7 @@ fn match_at(
     }
 }
 
-// Rule 4, with lent rows for the table; no bucket has a place yet.
+// Rule 4, with lent rows for the table.
 fn match_all(
     codes: &[u32],
     marks: &[u8],
@@ -90,16 +93,19 @@ fn match_all(
     requires { ⌜ Found (clausesIn (now codes)) (now codes) (now marks) ⌝ }
     requires { ⌜ Fits (length (now old)) (clausesIn (now codes)) ⌝ }
     requires { ⌜ (length (now old) ≤ 1024) × (length (now codes) ≤ 16384) ⌝ }
-    requires { ⌜ (0 < length (now heads)) × ((length (now codes) ≤ length (now next)) × ((h : ℕ) → getD (now heads) h 0 ≡ 0)) ⌝ }
+    requires { ⌜ (0 < length (now heads)) × (length (now codes) ≤ length (now next)) ⌝ }
     requires { ⌜ Making (clausesIn (now codes)) (now old) (now new) tally ⌝ }
     ensures made { λ r. ⌜ Making (clausesIn (now (codes .entry))) (now (old .entry)) (now (new .exit)) r ⌝ }
     ensures later { λ r. ⌜ Later (now (new .entry)) tally (now (new .exit)) r ⌝ }
     ensures ands { λ r. ⌜ Rule4 (clausesIn (now (codes .entry))) (now (old .entry)) (now (new .exit)) r ⌝ }
 {
+    fill(heads, 0);
     let mut t = tally;
     let mut p = 0;
     while p < codes.len() {
-        t = match_at(codes, marks, old, heads, next, new, t, p);
+        if marks[p] % 2 == 1 {
+            t = match_at(codes, marks, old, heads, next, new, t, p);
+        }
         p += 1;
     }
     t
@@ -110,18 +116,19 @@ pub fn by_and_pairs(
     codes: &[u32],
     marks: &[u8],
     old: &[u32],
+    heads: &mut [u32],
+    next: &mut [u32],
     new: &mut [u32],
     tally: Tally,
 ) -> Tally
     requires { ⌜ Found (clausesIn (now codes)) (now codes) (now marks) ⌝ }
     requires { ⌜ Fits (length (now old)) (clausesIn (now codes)) ⌝ }
     requires { ⌜ (length (now old) ≤ 1024) × (length (now codes) ≤ 16384) ⌝ }
+    requires { ⌜ (4096 ≤ length (now heads)) × (length (now codes) ≤ length (now next)) ⌝ }
     requires { ⌜ Making (clausesIn (now codes)) (now old) (now new) tally ⌝ }
     ensures made { λ r. ⌜ Making (clausesIn (now (codes .entry))) (now (old .entry)) (now (new .exit)) r ⌝ }
     ensures later { λ r. ⌜ Later (now (new .entry)) tally (now (new .exit)) r ⌝ }
     ensures ands { λ r. ⌜ Rule4 (clausesIn (now (codes .entry))) (now (old .entry)) (now (new .exit)) r ⌝ }
 {
-    let mut heads = [0u32; 4096];
-    let mut next = [0u32; 16384];
-    match_all(codes, marks, old, &mut heads, &mut next, new, tally)
+    match_all(codes, marks, old, &mut heads[..BUCKETS], next, new, tally)
 }

@@ -16,6 +16,7 @@ use crate::literals::first_other;
 use crate::literals::first_with;
 use crate::sign::flipped;
 use crate::tally::Tally;
+use gates::walk::literal;
 
 // Whether the literal at q is joined to T, or to the inverse of one behind it.
 fn is_clash(codes: &[u32], old: &[u32], e: usize, p: usize, q: usize) -> bool
@@ -119,7 +120,7 @@ pub fn by_ands(codes: &[u32], marks: &[u8], old: &[u32], new: &mut [u32], tally:
     let mut b = 0;
     let mut p = 0;
     while p < codes.len() {
-        if codes[p] == 0 {
+        if literal(codes, p) == 0 {
             b = p + 1;
         } else {
             t = by_literal(codes, marks, b, p, old, new, t);

@@ -1,20 +1,22 @@
 // Closing a clause list.
 
 ghost use mathlib.Core.Path.{_≡_};
-ghost use Prim.Native.Nat.{_≤_};
+ghost use Prim.Native.Nat.{_*_, _≤_};
 ghost use lib.ListN.{length, take};
 ghost use Rattle.clauses.specs.Limit.{maxNets, maxEntries};
 ghost use Rattle.clauses.specs.Clause.{clausesIn};
 ghost use Rattle.clauses.specs.Listing.{Fits};
 ghost use Rattle.gates.specs.Found.{Found};
-ghost use Rattle.closure.specs.Answer.{own};
-ghost use Rattle.closure.specs.Compute.{ended, closed};
-ghost use Rattle.closure.specs.Closing.{closeRounds, closing};
+ghost use Rattle.rules.specs.Answer.{own};
+ghost use Rattle.rules.specs.Compute.{ended, closed};
+ghost use Rattle.closure.specs.Closing.{checkList, closeRounds, closing};
 ghost use Rattle.closure.specs.Passed.{Passed, ClosedTo};
-use crate::Verdict;
+ghost use Rattle.closure.specs.Scratch.{Scratch};
+ghost use Rattle.closure.specs.Sides.{maxSides};
 use crate::lead::first_leads;
 use crate::run::Ended;
 use crate::run::run;
+use crate::sides::list_sides;
 use clauses::checks::Check;
 use clauses::checks::check_entries;
 use clauses::checks::check_sizes;
@@ -22,6 +24,7 @@ use clauses::refusal::Refusal;
 use clauses::tally::tally_row;
 use gates::fill::fill;
 use gates::finder::find_gates;
+use rules::Verdict;
 
 // Entries of the work row (specs/Closing.antt).
 const MAX_WORK: usize = 16384;
@@ -41,24 +44,42 @@ pub enum Closing {
     Refused(Refusal),
 }
 
-// Closes the list of a row of codes, from the first leads on, and leaves the last ones; `next` is for the rounds.
+// Closes the list of a row of codes, from the first leads on, and leaves the last ones; the other rows are for the rounds.
 fn close_codes(
     codes: &[u32],
     marks: &[u8],
     limit: u32,
     leads: &mut [u32],
     next: &mut [u32],
+    keys: &mut [u64],
+    values: &mut [u32],
+    heads: &mut [u32],
+    chain: &mut [u32],
+    sides: &mut [u32],
 ) -> Ended
     requires { ⌜ Found (clausesIn (now codes)) (now codes) (now marks) ⌝ }
     requires { ⌜ Fits (length (now leads)) (clausesIn (now codes)) ⌝ }
     requires { ⌜ (length (now leads) ≤ maxNets) × (length (now codes) ≤ maxEntries) ⌝ }
     requires { ⌜ length (now next) ≡ length (now leads) ⌝ }
+    requires { ⌜ Scratch (now keys) (now values) (now heads) (now chain) × (length (now sides) ≡ 3 * maxSides) ⌝ }
     ensures { λ r. ⌜ ended (r .verdict) (r .rounds) (now (leads .exit)) ≡ closed (length (now (leads .entry))) (clausesIn (now (codes .entry))) limit ⌝ }
     ensures { λ r. ⌜ r .groups ≡ length (own (length (now (leads .entry))) (now (leads .exit))) ⌝ }
 {
+    let n = list_sides(codes, marks, sides);
     first_leads(leads);
     first_leads(next);
-    run(codes, marks, limit, leads, next)
+    run(
+        codes,
+        marks,
+        &sides[..3 * n],
+        limit,
+        leads,
+        next,
+        keys,
+        values,
+        heads,
+        chain,
+    )
 }
 
 // Closes the list of the first n codes for V nets.
@@ -70,11 +91,17 @@ fn close_first(
     v: usize,
     leads: &mut [u32],
     next: &mut [u32],
+    keys: &mut [u64],
+    values: &mut [u32],
+    heads: &mut [u32],
+    chain: &mut [u32],
+    sides: &mut [u32],
 ) -> Ended
     requires { ⌜ (n ≤ length (now codes)) × (n ≤ length (now marks)) × (n ≤ maxEntries) ⌝ }
     requires { ⌜ Found (clausesIn (take n (now codes))) (take n (now codes)) (take n (now marks)) ⌝ }
     requires { ⌜ Fits v (clausesIn (take n (now codes))) ⌝ }
     requires { ⌜ (v ≤ maxNets) × (v ≤ length (now leads)) × (v ≤ length (now next)) ⌝ }
+    requires { ⌜ Scratch (now keys) (now values) (now heads) (now chain) × (length (now sides) ≡ 3 * maxSides) ⌝ }
     ensures { λ r. ⌜ ClosedTo v (clausesIn (take n (now (codes .entry)))) limit (now (leads .entry)) (now (leads .exit)) (r .verdict) (r .rounds) (r .groups) ⌝ }
 {
     close_codes(
@@ -83,10 +110,15 @@ fn close_first(
         limit,
         &mut leads[..v],
         &mut next[..v],
+        keys,
+        values,
+        heads,
+        chain,
+        sides,
     )
 }
 
-// Finds the gates and makes the rounds, of a list that passes tests 5 to 12; test 14. The last three rows are for the codes, the marks and the rounds.
+// Finds the gates and makes the rounds, of a list that passes tests 5 to 12; test 14. The last rows are for the codes, the marks and the rounds.
 fn close_in(
     v: u32,
     row: &[i32],
@@ -96,14 +128,33 @@ fn close_in(
     codes: &mut [u32],
     marks: &mut [u8],
     next: &mut [u32],
+    keys: &mut [u64],
+    values: &mut [u32],
+    heads: &mut [u32],
+    chain: &mut [u32],
+    sides: &mut [u32],
 ) -> Closing
     requires { ⌜ Passed v (now row) (now leads) (now work) ⌝ }
     requires { ⌜ (length (now codes) ≡ maxEntries) × (length (now marks) ≡ maxEntries) × (length (now next) ≡ maxNets) ⌝ }
+    requires { ⌜ Scratch (now keys) (now values) (now heads) (now chain) × (length (now sides) ≡ 3 * maxSides) ⌝ }
     ensures { λ r. ⌜ record { result = r; leads = now (leads .exit); work = now (work .exit) } ≡ closeRounds v (now (row .entry)) limit (now (leads .entry)) (now (work .entry)) ⌝ }
 {
     let f = find_gates(row, codes, marks);
     fill(&mut work[..MAX_WORK], 0);
-    let e = close_first(codes, marks, f.entries, limit, v as usize, leads, next);
+    let e = close_first(
+        codes,
+        marks,
+        f.entries,
+        limit,
+        v as usize,
+        leads,
+        next,
+        keys,
+        values,
+        heads,
+        chain,
+        sides,
+    );
     if v + 1 < e.rounds {
         return Closing::Refused(Refusal::TooManyRounds);
     }
@@ -127,6 +178,11 @@ fn close_rounds(v: u32, row: &[i32], limit: u32, leads: &mut [u32], work: &mut [
     let mut codes = [0u32; 16384];
     let mut marks = [0u8; 16384];
     let mut next = [0u32; 1024];
+    let mut keys = [0u64; 16384];
+    let mut values = [0u32; 16384];
+    let mut heads = [0u32; 8192];
+    let mut chain = [0u32; 65536];
+    let mut sides = [0u32; 98304];
     close_in(
         v,
         row,
@@ -136,7 +192,29 @@ fn close_rounds(v: u32, row: &[i32], limit: u32, leads: &mut [u32], work: &mut [
         &mut codes,
         &mut marks,
         &mut next,
+        &mut keys,
+        &mut values,
+        &mut heads,
+        &mut chain,
+        &mut sides,
     )
+}
+
+// Tests 5 to 12, of a lead row and a work row with so many entries.
+pub fn check_list(v: u32, c: u32, row: &[i32], leads: usize, work: usize) -> Check
+    ensures { λ r. ⌜ r ≡ checkList v c (now (row .entry)) leads work ⌝ }
+{
+    let sizes = check_sizes(v, c, row.len());
+    if let Check::Refused(r) = sizes {
+        return Check::Refused(r);
+    }
+    if leads < v as usize {
+        return Check::Refused(Refusal::LeadsTooShort);
+    }
+    if work < MAX_WORK {
+        return Check::Refused(Refusal::WorkTooShort);
+    }
+    check_entries(c, tally_row(v, row))
 }
 
 // Closes a clause list of V nets and C clauses under a round limit, which may be any: from V + 1 up all answer alike.
@@ -150,18 +228,8 @@ pub fn close(
 ) -> Closing
     ensures { λ r. ⌜ record { result = r; leads = now (leads .exit); work = now (work .exit) } ≡ closing v c (now (row .entry)) limit (now (leads .entry)) (now (work .entry)) ⌝ }
 {
-    let sizes = check_sizes(v, c, row.len());
-    if let Check::Refused(r) = sizes {
-        return Closing::Refused(r);
-    }
-    if leads.len() < v as usize {
-        return Closing::Refused(Refusal::LeadsTooShort);
-    }
-    if work.len() < MAX_WORK {
-        return Closing::Refused(Refusal::WorkTooShort);
-    }
-    let entries = check_entries(c, tally_row(v, row));
-    if let Check::Refused(r) = entries {
+    let list = check_list(v, c, row, leads.len(), work.len());
+    if let Check::Refused(r) = list {
         return Closing::Refused(r);
     }
     close_rounds(v, row, limit, leads, work)

@@ -1,26 +1,23 @@
 // Rules 7 and 8: the ITEs, as pairs of their sides.
 
 ghost use mathlib.Core.Path.{_≡_};
-ghost use Prim.Native.Nat.{ℕ, _*_, _≤_, _<_};
+ghost use Prim.Native.Nat.{ℕ, _+_, _*_, _≤_, _<_};
 ghost use lib.ListN.{length};
-ghost use Rattle.clauses.specs.Limit.{maxNets, maxEntries};
-ghost use Rattle.clauses.specs.Code.{net};
-ghost use Rattle.clauses.specs.Clause.{clausesIn};
-ghost use Rattle.clauses.specs.Listing.{Fits};
-ghost use Rattle.gates.specs.Found.{Found};
-ghost use Rattle.closure.specs.Answer.{leadOf};
-ghost use Rattle.closure.specs.Making.{Making, Later, Rule7, Rule8};
+ghost use Rattle.clauses.specs.Limit.{maxNets};
 ghost use Rattle.closure.specs.Sides.{maxSides, sideCount, Pair, isPair, isAlike, isHeld, isLater, Ready, Step, BySelect, ByThens, Matched, Slotted, Served, Matching, PairDone, SideDone, Chained, buckets, keyOf};
 use crate::lead::lead_of;
 use crate::side_chains::bucket;
 use crate::side_chains::chain_sides;
 use crate::side_chains::key_of;
-use crate::sides::list_sides;
 use crate::sides::output_of;
 use crate::sides::select_of;
 use crate::sides::then_of;
 use crate::sign::flipped;
 use crate::tally::Tally;
+use gates::fill::fill;
+
+// A slot for each literal and constant.
+const SLOTS: usize = 2050;
 
 // Rule 7 for side i, by its select.
 fn by_select(sides: &[u32], i: usize, old: &[u32], new: &mut [u32], t: Tally) -> Tally
@@ -277,33 +274,48 @@ fn match_all(
 }
 
 // Rules 7 and 8 for a row of sides.
-fn by_sides(sides: &[u32], old: &[u32], new: &mut [u32], t: Tally) -> Tally
+fn by_sides(
+    sides: &[u32],
+    heads: &mut [u32],
+    next: &mut [u32],
+    old: &[u32],
+    slots: &mut [u32],
+    new: &mut [u32],
+    t: Tally,
+) -> Tally
     requires { ⌜ Ready (now sides) (now old) (now new) t ⌝ }
+    requires { ⌜ (length (now heads) ≡ 2 * buckets) × (length (now next) ≡ 2 * maxSides) ⌝ }
+    requires { ⌜ length (now slots) ≡ 2 * maxNets + 2 ⌝ }
     ensures { λ r. ⌜ Step (now (sides .entry)) (now (old .entry)) (now (new .entry)) t (now (new .exit)) r ⌝ }
     ensures { λ r. ⌜ ((i : ℕ) → i < sideCount (now (sides .entry)) → BySelect (now (sides .entry)) (now (old .entry)) (now (new .exit)) r i) ⌝ }
     ensures { λ r. ⌜ ((i : ℕ) → i < sideCount (now (sides .entry)) → Matched (now (sides .entry)) (now (old .entry)) (now (new .exit)) r i) ⌝ }
 {
-    let mut heads = [0u32; 8192];
-    let mut next = [0u32; 65536];
-    let mut slots = [0u32; 2050];
-    chain_sides(sides, old, &mut heads, &mut next);
+    fill(heads, 0);
+    fill(slots, 0);
+    chain_sides(sides, old, heads, next);
     let u = by_selects(sides, old, new, t);
-    match_all(sides, &heads, &next, old, &mut slots, new, u)
+    match_all(sides, heads, next, old, slots, new, u)
 }
 
-// Rules 7 and 8: joins what they conclude from the old leads.
-pub fn by_ites(codes: &[u32], marks: &[u8], old: &[u32], new: &mut [u32], t: Tally) -> Tally
-    requires { ⌜ Found (clausesIn (now codes)) (now codes) (now marks) ⌝ }
-    requires { ⌜ Fits (length (now old)) (clausesIn (now codes)) ⌝ }
-    requires { ⌜ Making (clausesIn (now codes)) (now old) (now new) t ⌝ }
-    requires { ⌜ (length (now old) ≤ maxNets) × (length (now codes) ≤ maxEntries) ⌝ }
-    requires { ⌜ ((c : ℕ) → net (leadOf (now old) c) ≤ net c) ⌝ }
-    ensures making { λ r. ⌜ Making (clausesIn (now (codes .entry))) (now (old .entry)) (now (new .exit)) r ⌝ }
-    ensures later { λ r. ⌜ Later (now (new .entry)) t (now (new .exit)) r ⌝ }
-    ensures seven { λ r. ⌜ Rule7 (clausesIn (now (codes .entry))) (now (old .entry)) (now (new .exit)) r ⌝ }
-    ensures eight { λ r. ⌜ Rule8 (clausesIn (now (codes .entry))) (now (old .entry)) (now (new .exit)) r ⌝ }
+// The same, where the row may be empty.
+pub fn by_ites(
+    sides: &[u32],
+    heads: &mut [u32],
+    next: &mut [u32],
+    old: &[u32],
+    slots: &mut [u32],
+    new: &mut [u32],
+    t: Tally,
+) -> Tally
+    requires { ⌜ Ready (now sides) (now old) (now new) t ⌝ }
+    requires { ⌜ (length (now heads) ≡ 2 * buckets) × (length (now next) ≡ 2 * maxSides) ⌝ }
+    requires { ⌜ 2 * maxNets + 2 ≤ length (now slots) ⌝ }
+    ensures { λ r. ⌜ Step (now (sides .entry)) (now (old .entry)) (now (new .entry)) t (now (new .exit)) r ⌝ }
+    ensures { λ r. ⌜ ((i : ℕ) → i < sideCount (now (sides .entry)) → BySelect (now (sides .entry)) (now (old .entry)) (now (new .exit)) r i) ⌝ }
+    ensures { λ r. ⌜ ((i : ℕ) → i < sideCount (now (sides .entry)) → Matched (now (sides .entry)) (now (old .entry)) (now (new .exit)) r i) ⌝ }
 {
-    let mut sides = [0u32; 98304];
-    let n = list_sides(codes, marks, &mut sides);
-    by_sides(&sides[..3 * n], old, new, t)
+    if sides.len() == 0 {
+        return t;
+    }
+    by_sides(sides, heads, next, old, &mut slots[..SLOTS], new, t)
 }

@@ -5,8 +5,8 @@ ghost use mathlib.Core.List.{map};
 ghost use Prim.Native.Nat.{_≤_};
 ghost use lib.ListN.{length};
 ghost use Rattle.gates.specs.Count.{netsOf};
-ghost use Rattle.closure.specs.Answer.{leadOf};
-ghost use Rattle.closure.specs.Compute.{replace};
+ghost use Rattle.rules.specs.Answer.{leadOf};
+ghost use Rattle.rules.specs.Compute.{replace};
 use crate::sign::flipped;
 use crate::sign::is_inverse;
 

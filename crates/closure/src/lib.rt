@@ -1,17 +1,11 @@
 // The closing rounds.
 
-// How closing ends.
-pub enum Verdict {
-    Contradiction,
-    Settled,
-    Unfinished,
-}
-
 mod and_pairs;
 mod and_sets;
 mod ands;
 pub mod close;
 mod ites;
+mod kinds;
 mod lead;
 mod literals;
 mod nets;

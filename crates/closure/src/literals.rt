@@ -5,6 +5,7 @@ ghost use Prim.Native.Nat.{_≤_, _<_};
 ghost use lib.ListN.{length};
 ghost use Rattle.closure.specs.Passing.{isOther, isWith, isEnding, First};
 use crate::lead::lead_of;
+use gates::walk::clause_end;
 
 // Whether place q is not `skip`, and its lead neither F nor y.
 fn is_other(codes: &[u32], old: &[u32], skip: usize, y: u32, q: usize) -> bool
@@ -67,12 +68,5 @@ pub fn ending(codes: &[u32], from: usize) -> usize
     requires { ⌜ from ≤ length (now codes) ⌝ }
     ensures { λ r. ⌜ First (isEnding (now (codes .entry))) from (length (now (codes .entry))) r ⌝ }
 {
-    let mut q = from;
-    while q < codes.len() {
-        if codes[q] == 0 {
-            return q;
-        }
-        q += 1;
-    }
-    q
+    clause_end(codes, from)
 }

@@ -5,7 +5,7 @@ ghost use mathlib.Core.List.{List, _∷_};
 ghost use Prim.Native.Nat.{ℕ, _<_};
 ghost use Rattle.clauses.specs.Code.{net};
 ghost use Rattle.gates.specs.Sign.{plus};
-ghost use Rattle.closure.specs.Answer.{leadOf};
+ghost use Rattle.rules.specs.Answer.{leadOf};
 ghost use Rattle.closure.specs.Xors.{toggled, oddNets, packed, Digits, others, restOf, Packable};
 use crate::lead::lead_of;
 use crate::sign::is_inverse;

@@ -11,6 +11,7 @@ ghost use Rattle.closure.specs.Passing.{Standing, Stepped, UnitJoined, C
 use crate::literals::first_other;
 use crate::sign::flipped;
 use crate::tally::Tally;
+use gates::walk::literal;
 
 // Rule 1 for the clause from b up to its ending at e.
 fn by_unit(codes: &[u32], b: usize, e: usize, old: &[u32], new: &mut [u32], t: Tally) -> Tally
@@ -70,7 +71,7 @@ pub fn by_clauses(codes: &[u32], marks: &[u8], old: &[u32], new: &mut [u32], tal
     let mut b = 0;
     let mut p = 0;
     while p < codes.len() {
-        if codes[p] == 0 {
+        if literal(codes, p) == 0 {
             t = by_clause(codes, marks, b, p, old, new, t);
             b = p + 1;
         }

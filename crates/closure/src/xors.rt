@@ -1,9 +1,12 @@
 // Rules 5 and 6: XORs are matched by what is left of them without one literal.
 
 ghost use mathlib.Core.Path.{_≡_};
-ghost use Prim.Native.Nat.{_+_, _<_};
+ghost use mathlib.Core.Bool.{Bool, false};
+ghost use mathlib.Core.List.{List};
+ghost use Prim.Native.Nat.{ℕ, _+_, _≤_, _<_};
 ghost use lib.ListN.{length};
 ghost use Rattle.clauses.specs.Clause.{clausesIn};
+ghost use Rattle.gates.specs.Gate.{XorGate};
 ghost use Rattle.gates.specs.Found.{clauseAt, Starts};
 ghost use Rattle.closure.specs.Making.{Making, Later, Rule5, Rule6};
 ghost use Rattle.closure.specs.Xors.{Packable};
@@ -13,6 +16,11 @@ use crate::sign::flipped;
 use crate::table::enter;
 use crate::table::look_up;
 use crate::tally::Tally;
+use gates::fill::fill;
+use gates::walk::literal;
+
+// Buckets of the table: a prime, as the nets of a key stand in powers of two.
+const BUCKETS: usize = 4093;
 
 // A round that is being made, and the slots taken in the table of keys.
 pub struct Pass {
@@ -140,40 +148,76 @@ fn take_clause(
     s
 }
 
-// Joins every conclusion of rules 5 and 6.
-pub fn by_xors(codes: &[u32], marks: &[u8], old: &[u32], new: &mut [u32], t: Tally) -> Tally
+// Takes each literal of each XOR, with lent rows for the table.
+fn take_all(
+    codes: &[u32],
+    marks: &[u8],
+    old: &[u32],
+    new: &mut [u32],
+    keys: &mut [u64],
+    sums: &mut [u32],
+    next: &mut [u32],
+    heads: &mut [u32],
+    t: Tally,
+) -> Tally
     requires { ⌜ Ready (now codes) (now marks) (now old) ⌝ }
     requires { ⌜ Making (clausesIn (now codes)) (now old) (now new) t ⌝ }
+    requires { ⌜ 0 < length (now heads) ⌝ }
+    requires { ⌜ (length (now codes) ≤ length (now keys)) × (length (now codes) ≤ length (now sums)) × (length (now keys) ≤ length (now next)) ⌝ }
     ensures making { λ r. ⌜ Making (clausesIn (now (codes .entry))) (now (old .entry)) (now (new .exit)) r ⌝ }
     ensures later { λ r. ⌜ Later (now (new .entry)) t (now (new .exit)) r ⌝ }
     ensures five { λ r. ⌜ Rule5 (clausesIn (now (codes .entry))) (now (old .entry)) (now (new .exit)) r ⌝ }
     ensures six { λ r. ⌜ Rule6 (clausesIn (now (codes .entry))) (now (old .entry)) (now (new .exit)) r ⌝ }
 {
-    let mut keys = [0u64; 16384];
-    let mut sums = [0u32; 16384];
-    let mut next = [0u32; 16384];
-    let mut heads = [0u32; 4093];
+    fill(heads, 0);
     let mut s = Pass { tally: t, count: 0 };
     let mut b = 0;
     let mut q = 0;
     while q < codes.len() {
-        if codes[q] == 0 {
-            s = take_clause(
-                codes,
-                marks,
-                old,
-                new,
-                &mut keys,
-                &mut sums,
-                &mut next,
-                &mut heads,
-                s,
-                b,
-                q - b,
-            );
+        if literal(codes, q) == 0 {
+            s = take_clause(codes, marks, old, new, keys, sums, next, heads, s, b, q - b);
             b = q + 1;
         }
         q += 1;
     }
     s.tally
+}
+
+// Joins every conclusion of rules 5 and 6; `any` says whether the list has XORs.
+pub fn by_xors(
+    codes: &[u32],
+    marks: &[u8],
+    any: bool,
+    old: &[u32],
+    new: &mut [u32],
+    keys: &mut [u64],
+    sums: &mut [u32],
+    next: &mut [u32],
+    heads: &mut [u32],
+    t: Tally,
+) -> Tally
+    requires { ⌜ Ready (now codes) (now marks) (now old) ⌝ }
+    requires { ⌜ Making (clausesIn (now codes)) (now old) (now new) t ⌝ }
+    requires { ⌜ (any ≡ false → (ls : List ℕ) (odd : Bool) → ¬ XorGate (clausesIn (now codes)) ls odd) ⌝ }
+    requires { ⌜ 4093 ≤ length (now heads) ⌝ }
+    requires { ⌜ (length (now codes) ≤ length (now keys)) × (length (now codes) ≤ length (now sums)) × (length (now keys) ≤ length (now next)) ⌝ }
+    ensures making { λ r. ⌜ Making (clausesIn (now (codes .entry))) (now (old .entry)) (now (new .exit)) r ⌝ }
+    ensures later { λ r. ⌜ Later (now (new .entry)) t (now (new .exit)) r ⌝ }
+    ensures five { λ r. ⌜ Rule5 (clausesIn (now (codes .entry))) (now (old .entry)) (now (new .exit)) r ⌝ }
+    ensures six { λ r. ⌜ Rule6 (clausesIn (now (codes .entry))) (now (old .entry)) (now (new .exit)) r ⌝ }
+{
+    if !any {
+        return t;
+    }
+    take_all(
+        codes,
+        marks,
+        old,
+        new,
+        keys,
+        sums,
+        next,
+        &mut heads[..BUCKETS],
+        t,
+    )
 }

@@ -2,6 +2,7 @@
 -- Assumes nothing.
 use borrow.Author.Needs.{needs}
 use Prim.Native.Nat.{_-_}
+use mathlib.Core.Path.{sym, _∙_}
 use mathlib.Core.Logic.{⊎-elim}
 use lib.ListN.{length}
 use native.Mathlib.Omega.{arith}
@@ -22,17 +23,14 @@ abbrev μ-loop : tie.MeasureT-loop
 loop-holds : tie.Need-loop-holds Inv-loop μ-loop
 loop-holds c = (walk-first _, record { making = c .before .before .before .before .pre .1 .1 .1; later = λ a b j. j; joined = λ a q k h. absurd (omega arith) })
 
-mul-if1 : tie.Need-mul-if1 Inv-loop μ-loop
-mul-if1 c = search needs
-
-shared-slice-read-if1 : tie.Need-shared-slice-read-if1 Inv-loop μ-loop
-shared-slice-read-if1 c = search needs
+literal-requires : tie.Need-literal-requires Inv-loop μ-loop
+literal-requires c κs = search needs
 
 add-b : tie.Need-add-b Inv-loop μ-loop
 add-b c = search needs
 
 by-literal-requires : tie.Need-by-literal-requires Inv-loop μ-loop
-by-literal-requires c κs = (c .before .before .before .before .before .before .before .before .before .pre .0, (walk-literal _ _ _ (c .before .before .before .before .loop .inv .0) (c .before .before .before .loop-test .taken) (c .before .if1 .left), (c .before .before .before .before .before .before .before .before .before .pre .1 .0, (c .before .before .before .before .before .before .before .before .before .pre .1 .1 .0, c .before .before .before .before .loop .inv .1 .making))))
+by-literal-requires c κs = (c .before .before .before .before .before .before .before .before .before .pre .0, (walk-literal _ _ _ (c .before .before .before .before .loop .inv .0) (c .before .before .before .loop-test .taken) (λ z. c .before .if1 .left (c .before .before .literal .ensures ∙ z)), (c .before .before .before .before .before .before .before .before .before .pre .1 .0, (c .before .before .before .before .before .before .before .before .before .pre .1 .1 .0, c .before .before .before .before .loop .inv .1 .making))))
 
 add-p : tie.Need-add-p Inv-loop μ-loop
 add-p c = search needs
@@ -43,9 +41,10 @@ loop-less c = search needs
 loop-again : tie.Need-loop-again Inv-loop μ-loop
 loop-again c = let inv = c .before .before .before .loop .inv in
     let h = c .before .before .loop-test .taken in
+    let e = c .before .literal .ensures in
     ⊎-elim
-    (λ w. rw (w .1, w .2, w .3) (walk-behind _ _ _ (inv .0) h (w .0 .taken), ending-done (now (c .before .before .before .before .before .before .before .before .args .marks)) _ (w .0 .taken) (inv .1)))
-    (λ w. rw (w .5, w .6, w .7) (walk-on _ _ _ (inv .0) h (w .0 .left), and-done (now (c .before .before .before .before .before .before .before .before .args .marks)) _ _ (inv .0) h (inv .1) (w .2 .ensures)))
+    (λ w. rw (w .1, w .2, w .3) (walk-behind _ _ _ (inv .0) h (sym e ∙ w .0 .taken), ending-done (now (c .before .before .before .before .before .before .before .before .args .marks)) _ (sym e ∙ w .0 .taken) (inv .1)))
+    (λ w. rw (w .5, w .6, w .7) (walk-on _ _ _ (inv .0) h (λ z. w .0 .left (e ∙ z)), and-done (now (c .before .before .before .before .before .before .before .before .args .marks)) _ _ (inv .0) h (inv .1) (w .2 .ensures)))
     (c .if1 .came)
 
 same-length : tie.Need-same-length Inv-loop μ-loop
@@ -62,8 +61,7 @@ by-ands-spec =
     Inv-loop
     μ-loop
     loop-holds
-    mul-if1
-    shared-slice-read-if1
+    literal-requires
     add-b
     by-literal-requires
     add-p

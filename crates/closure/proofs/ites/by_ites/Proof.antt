@@ -1,48 +1,51 @@
 -- `closure::ites::by_ites` meets its contract.
 -- Assumes nothing.
 use mathlib.Core.Path.{sym}
-use Prim.Native.Nat.{_*_}
 use native.Mathlib.Omega.{arith}
-use borrow.Author.Needs.{needs}
+use denote.Ref.{now}
 use lib.Seq.{length-take-le}
-use Rattle.closure.proofs.SideMatching.{sides-rule7, sides-rule8}
-use Rattle.closure.proofs.SideRows.{found-sides}
+use Rattle.closure.proofs.SideSteps.{step-none}
+use borrow.Author.Needs.{needs}
 use Rattle.closure.proofs.ites.by_ites.Statement.{statement}
 use Rattle.closure.proofs.ites.by_ites.Tie as tie
 
-slice-aggregate-list-sides : tie.Need-slice-aggregate-list-sides
-slice-aggregate-list-sides c = search needs
+returns : tie.Need-returns
+returns c = (step-none _ _, ((λ i h. absurd (omega (arith, h, c .if1 .taken))), λ i h. absurd (omega (arith, h, c .if1 .taken))))
 
-list-sides-requires : tie.Need-list-sides-requires
-list-sides-requires c κs = search needs
-
-mul-sides : tie.Need-mul-sides
-mul-sides c = search needs
-
-array-share-prefix-sides : tie.Need-array-share-prefix-sides
-array-share-prefix-sides c = search needs
+slice-relend-prefix-by-sides : tie.Need-slice-relend-prefix-by-sides
+slice-relend-prefix-by-sides c = search needs
 
 slice-aggregate-by-sides : tie.Need-slice-aggregate-by-sides
-slice-aggregate-by-sides c = sym (length-take-le (3 * c .before .before .list-sides .result) (c .before .before .list-sides .last .1 .1 .0) (omega (arith, c .before .before .list-sides .ensures .0 .0, c .before .before .list-sides .kept .1 .1 .0)))
+slice-aggregate-by-sides c = let s = c .before .before .before .before .before .before .before .before .before .before in sym (length-take-le 2050 (now (s .args .slots)) (s .pre .1 .1))
 
 by-sides-requires : tie.Need-by-sides-requires
-by-sides-requires c κs = record { of = _; sides-of = (found-sides (c .before .before .before .list-sides .last .1 .1 .0) (c .before .before .before .list-sides .result) (c .before .before .before .before .before .before .before .before .before .pre .0) (omega (arith, c .before .before .before .list-sides .ensures .0 .0, c .before .before .before .list-sides .kept .1 .1 .0)) (c .before .before .before .list-sides .ensures .0 .1) (c .before .before .before .list-sides .ensures .1)); fits = c .before .before .before .before .before .before .before .before .before .pre .1 .0; making = c .before .before .before .before .before .before .before .before .before .pre .1 .1 .0; few = c .before .before .before .before .before .before .before .before .before .pre .1 .1 .1 .0 .0; low = c .before .before .before .before .before .before .before .before .before .pre .1 .1 .1 .1; room = omega (arith, length-take-le (3 * c .before .before .before .list-sides .result) (c .before .before .before .list-sides .last .1 .1 .0) (omega (arith, c .before .before .before .list-sides .ensures .0 .0, c .before .before .before .list-sides .kept .1 .1 .0)), c .before .before .before .list-sides .ensures .0 .0) }
+by-sides-requires c κs = let s = c .before .before .before .before .before .before .before .before .before .before .before in (s .pre .0, (s .pre .1 .0, length-take-le 2050 (now (s .args .slots)) (s .pre .1 .1)))
 
 same-length : tie.Need-same-length
 same-length c = search needs
 
-returns : tie.Need-returns
-returns c = let s = (found-sides (c .before .before .before .before .before .before .list-sides .last .1 .1 .0) (c .before .before .before .before .before .before .list-sides .result) (c .before .before .before .before .before .before .before .before .before .before .before .before .pre .0) (omega (arith, c .before .before .before .before .before .before .list-sides .ensures .0 .0, c .before .before .before .before .before .before .list-sides .kept .1 .1 .0)) (c .before .before .before .before .before .before .list-sides .ensures .0 .1) (c .before .before .before .before .before .before .list-sides .ensures .1)) in let e = c .before .before .by-sides .ensures in (e .0 .making _ s (c .before .before .before .before .before .before .before .before .before .before .before .before .pre .1 .0) (c .before .before .before .before .before .before .before .before .before .before .before .before .pre .1 .1 .0), (e .0 .later, (sides-rule7 s (e .1 .1) (e .1 .0), sides-rule8 s (e .1 .1))))
+same-length-2 : tie.Need-same-length-2
+same-length-2 c = search needs
+
+same-length-3 : tie.Need-same-length-3
+same-length-3 c = search needs
+
+same-length-4 : tie.Need-same-length-4
+same-length-4 c = search needs
+
+returns-2 : tie.Need-returns-2
+returns-2 c = search needs
 
 pub by-ites-spec : {M : Type 1} → statement M
 by-ites-spec =
     tie.close
     (tie.spec
-    slice-aggregate-list-sides
-    list-sides-requires
-    mul-sides
-    array-share-prefix-sides
+    returns
+    slice-relend-prefix-by-sides
     slice-aggregate-by-sides
     by-sides-requires
     same-length
-    returns)
+    same-length-2
+    same-length-3
+    same-length-4
+    returns-2)

@@ -4,7 +4,7 @@ use mathlib.Core.Path.{_∙_, ap, sym}
 use native.Mathlib.Omega.{arith}
 use borrow.Author.Needs.{needs}
 use denote.Ref.{now}
-use Rattle.closure.specs.Answer.{leadOf}
+use Rattle.rules.specs.Answer.{leadOf}
 use Rattle.closure.proofs.SideSteps.{ready-joins}
 use Rattle.closure.proofs.SideMatching.{held-is, slot-inside, slot-entry, pair-held, pair-given}
 use Rattle.closure.proofs.ites.match_pair.Statement.{statement}

@@ -7,7 +7,7 @@ use lib.ListN.{length, length-set}
 use lib.Seq.{ext-getD}
 use Rattle.gates.specs.Count.{netsOf}
 use Rattle.closure.proofs.Maps.{Written, written-none, written-more}
-use Rattle.closure.proofs.Closing.{netsOf-length, netsOf-at}
+use Rattle.rules.proofs.Closing.{netsOf-length, netsOf-at}
 use borrow.Author.Needs.{needs}
 use Rattle.closure.proofs.lead.first_leads.Statement.{statement}
 use Rattle.closure.proofs.lead.first_leads.Tie as tie

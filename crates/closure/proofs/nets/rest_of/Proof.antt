@@ -8,7 +8,7 @@ use borrow.Author.Needs.{needs}
 use lib.ListN.{getD}
 use denote.Ref.{now}
 use Rattle.clauses.specs.Code.{net}
-use Rattle.closure.specs.Answer.{leadOf}
+use Rattle.rules.specs.Answer.{leadOf}
 use Rattle.closure.specs.Xors.{others, restOf}
 use Rattle.closure.proofs.XorRests.{rest-begins, rest-skips, rest-goes-on, rest-digits, rest-room}
 use Rattle.closure.proofs.nets.rest_of.Statement.{statement}

@@ -1,5 +1,6 @@
 -- `closure::units::by_clauses` meets its contract.
 -- Assumes nothing.
+use mathlib.Core.Path.{sym, _∙_}
 use mathlib.Core.Logic.{⊎-elim}
 use borrow.Author.Needs.{needs}
 use Prim.Native.Nat.{_-_}
@@ -21,16 +22,13 @@ abbrev μ-loop : tie.MeasureT-loop
 loop-holds : tie.Need-loop-holds Inv-loop μ-loop
 loop-holds c = (walk-first _, record { making = c .before .before .before .before .pre .1 .1 .1; later = λ a b j. j; joined = λ a s h. absurd (omega arith) })
 
-mul-if1 : tie.Need-mul-if1 Inv-loop μ-loop
-mul-if1 c = search needs
-
-shared-slice-read-if1 : tie.Need-shared-slice-read-if1 Inv-loop μ-loop
-shared-slice-read-if1 c = search needs
+literal-requires : tie.Need-literal-requires Inv-loop μ-loop
+literal-requires c κs = search needs
 
 by-clause-requires : tie.Need-by-clause-requires Inv-loop μ-loop
 by-clause-requires c κs = let w = c .before .before .before .before .loop .inv .0 in
     let h = c .before .before .before .loop-test .taken in
-    (c .before .before .before .before .before .before .before .before .before .pre .0, ((w .start (omega (arith, w .low)), walk-end _ _ _ w h (c .before .if1 .taken)), (c .before .before .before .before .before .before .before .before .before .pre .1 .0, (c .before .before .before .before .before .before .before .before .before .pre .1 .1 .0, c .before .before .before .before .loop .inv .1 .making))))
+    (c .before .before .before .before .before .before .before .before .before .pre .0, ((w .start (omega (arith, w .low)), walk-end _ _ _ w h (sym (c .before .before .literal .ensures) ∙ c .before .if1 .taken)), (c .before .before .before .before .before .before .before .before .before .pre .1 .0, (c .before .before .before .before .before .before .before .before .before .pre .1 .1 .0, c .before .before .before .before .loop .inv .1 .making))))
 
 add-b : tie.Need-add-b Inv-loop μ-loop
 add-b c = search needs
@@ -44,9 +42,10 @@ loop-less c = search needs
 loop-again : tie.Need-loop-again Inv-loop μ-loop
 loop-again c = let inv = c .before .before .before .loop .inv in
     let h = c .before .before .loop-test .taken in
+    let e = c .before .literal .ensures in
     ⊎-elim
-    (λ w. rw (w .5, w .6, w .7) (walk-behind _ _ _ (inv .0) h (w .0 .taken), clause-done (c .before .before .before .before .before .before .before .before .pre .0) _ _ (inv .0) h (w .0 .taken) (inv .1) (w .2 .ensures)))
-    (λ w. rw (w .1, w .2, w .3) (walk-on _ _ _ (inv .0) h (w .0 .left), inv .1))
+    (λ w. rw (w .5, w .6, w .7) (walk-behind _ _ _ (inv .0) h (sym e ∙ w .0 .taken), clause-done (c .before .before .before .before .before .before .before .before .pre .0) _ _ (inv .0) h (sym e ∙ w .0 .taken) (inv .1) (w .2 .ensures)))
+    (λ w. rw (w .1, w .2, w .3) (walk-on _ _ _ (inv .0) h (λ z. w .0 .left (e ∙ z)), inv .1))
     (c .if1 .came)
 
 same-length : tie.Need-same-length Inv-loop μ-loop
@@ -65,8 +64,7 @@ by-clauses-spec =
     Inv-loop
     μ-loop
     loop-holds
-    mul-if1
-    shared-slice-read-if1
+    literal-requires
     by-clause-requires
     add-b
     add-p

@@ -1,0 +1,81 @@
+-- The theorems about the computed answer to a list of nets 1 to V under any round limit.
+-- Assumes nothing.
+use mathlib.Core.Path.{_≡_, sym, _∙_, subst}
+use mathlib.Core.Logic.{inl, _↔_}
+use mathlib.Core.Bool.{Bool}
+use mathlib.Core.List.{List, List·Memᴰ}
+use Prim.Native.Nat.{ℕ, suc, _*_, _≤_, _<_}
+use lib.ListN.{getD}
+use Rattle.rules.specs.declared.Verdict.the-variants.{Contradiction, Settled}
+use Rattle.clauses.specs.Listing.{Fits}
+use Rattle.clauses.specs.Renaming.{Renames, Images}
+use Rattle.clauses.proofs.Extended.{extension}
+use Rattle.rules.specs.Grouping.{After}
+use Rattle.rules.specs.Answer.{Answer, IsAnswer, Joined}
+use Rattle.rules.specs.Compute.{closed, tally, answer}
+use Rattle.rules.specs.Assignment.{Assignment, Satisfies}
+use Rattle.rules.specs.Renaming.{Renamed}
+use Rattle.rules.specs.Starred.{Starred, starred}
+use Rattle.rules.proofs.Closing.{Ran, settled≢contradiction, closed-ran}
+use Rattle.rules.proofs.Answers.{ran-answer, is-answer-once, ran-joined}
+use Rattle.rules.proofs.Truth.{satisfied-apart, ran-true}
+use Rattle.rules.proofs.Bounds.{settled-bounded, ends-bounded, ends-beyond}
+use Rattle.rules.proofs.RenamedAnswers.{ran-renamed, renamed-agrees}
+use Rattle.rules.proofs.Starred.{starred-computed, starred-fits}
+
+module _ (v : ℕ) (cs : List (List ℕ)) (fit : Fits v cs) (limit : ℕ) where
+  ran : Ran v cs limit (closed v cs limit)
+  ran = closed-ran v cs fit limit
+
+  -- Exactness: verdict, rounds, counts, groups and leads are what the gates and the groupings of the rules leave, and no other answer is.
+  pub answer-exact : IsAnswer v cs limit (answer v cs limit)
+  unfolding answer
+  answer-exact = ran-answer v cs fit limit (closed v cs limit) ran
+
+  pub answer-unique : (a : Answer) → IsAnswer v cs limit a → a ≡ answer v cs limit
+  answer-unique a h = is-answer-once v cs limit a (answer v cs limit) h answer-exact
+
+  -- The leads join two literals or constants exactly when the grouping after the answer's rounds does: none missing, none added.
+  pub answer-joined : (x y : ℕ) → Joined (answer v cs limit) x y ↔ After cs (answer v cs limit .rounds) x y
+  unfolding answer tally
+  answer-joined x y = ran-joined v cs limit (closed v cs limit) ran x y
+
+  -- Truth: every assignment that satisfies all clauses gives each net its lead's value.
+  pub answer-true : (value : ℕ → Bool) → Assignment value → Satisfies value cs → (i : ℕ) → i < v → value (2 * suc i) ≡ value (getD (answer v cs limit .leads) i 0)
+  unfolding answer tally
+  answer-true value asg sat i h = ran-true value asg sat ran i h
+
+  -- and there is a contradiction only if no assignment satisfies the list.
+  pub contradiction-true : answer v cs limit .verdict ≡ Contradiction → (value : ℕ → Bool) → Assignment value → ¬ Satisfies value cs
+  contradiction-true e value asg sat = satisfied-apart value asg cs sat (answer v cs limit .rounds) (answer-joined 1 0 .0 (inl e))
+
+  -- Bounds: a settled list takes at most V rounds,
+  pub settled-bound : answer v cs limit .verdict ≡ Settled → answer v cs limit .rounds ≤ v
+  settled-bound e = settled-bounded v cs fit (λ d. settled≢contradiction (sym e ∙ d)) (answer-exact .ends)
+
+  -- a contradiction at most V + 1, and nothing takes more.
+  pub rounds-bound : answer v cs limit .rounds ≤ suc v
+  rounds-bound = ends-bounded v cs fit (answer-exact .ends)
+
+-- Every limit over V has the same answer.
+pub answer-beyond : (v : ℕ) (cs : List (List ℕ)) → Fits v cs → (limit more : ℕ) → v < limit → limit ≤ more → answer v cs limit ≡ answer v cs more
+answer-beyond v cs fit limit more h k =
+    let a = answer-exact v cs fit limit in
+    answer-unique v cs fit more (answer v cs limit)
+    (record { ends = ends-beyond v cs fit h k (a .ends); leads = a .leads; ands = a .ands; xors = a .xors; ites = a .ites })
+
+-- Demand 3: the answers to a list and to its image under a renaming differ by the renaming alone.
+pub demand-three : (v limit : ℕ) (cs ds : List (List ℕ)) (ρ : ℕ → ℕ) → Fits v cs → Fits v ds → Renames v ρ → Images ρ cs ds
+    → Renamed v ρ (answer v cs limit) (answer v ds limit)
+unfolding answer
+demand-three v limit cs ds ρ p q ren images =
+    let e = extension p ren images in
+    renamed-agrees (e .agrees)
+    (ran-renamed v (e .there) (e .back) cs ds (e .image) (e .there-inside) (e .back-inside) limit p q
+    (closed v cs limit) (closed v ds limit) (closed-ran v cs p limit) (closed-ran v ds q limit))
+
+-- The starred lists, as facts about the rules.
+pub starred-answers : (s : Starred) → List·Memᴰ s starred → IsAnswer (s .nets) (s .clauses) (suc (s .nets)) (s .result)
+starred-answers s k =
+    subst (IsAnswer (s .nets) (s .clauses) (suc (s .nets))) (starred-computed s k)
+    (answer-exact (s .nets) (s .clauses) (starred-fits s k) (suc (s .nets)))
