@@ -4,7 +4,6 @@ use mathlib.Core.Path.{_≡_, refl, sym, _∙_, ap}
 use mathlib.Core.Logic.{_≢_}
 use mathlib.Core.Bool.{Bool, true, false, not, cond, true≢false, false≢true}
 use mathlib.Core.List.{List, [], _∷_, _++_, append-assoc}
-use mathlib.Core.Option.{some}
 use Prim.Native.Nat.{ℕ, zero, suc, _+_, _*_, _/_, _%_, _^_, _≤_, _<_}
 use native.Mathlib.Decide.{ℕ-discrete}
 use native.Mathlib.Omega.{arith}
@@ -14,27 +13,26 @@ use lib.Dec.{eqb}
 use lib.ListN.{length, length-append, replicate}
 use Rattle.clauses.specs.Bytes.{lf, minus, isDigit, every, front, behind}
 use Rattle.clauses.specs.Code.{net}
-use Rattle.clauses.specs.Number.{decimal, unsigned}
+use Rattle.clauses.specs.Number.{value, decimal}
 use Rattle.clauses.proofs.Splitting.{every-head, every-weaken, front-stop, behind-stop}
-use Rattle.clauses.proofs.Numerals.{decimal-numeral, unsigned-decimal, Numeral}
+use Rattle.clauses.proofs.Numerals.{decimal-numeral, Numeral}
 use Rattle.gates.specs.Sign.{isInverse}
-use Rattle.closure.specs.declared.Verdict.{Verdict}
-use Rattle.closure.specs.declared.Verdict.the-variants.{Contradiction, Settled, Unfinished}
-use Rattle.closure.specs.Answer.{Answer, noLead}
+use Rattle.rules.specs.declared.Verdict.{Verdict}
+use Rattle.rules.specs.declared.Verdict.the-variants.{Contradiction, Settled, Unfinished}
+use Rattle.rules.specs.Answer.{Answer, noLead}
 use Rattle.sheet.specs.Sheet.{comma, namesLine, verdictText, field, numbersText, valuesLine, leadText, netLine, netLeadLine, netLines, leadLines, sheetText}
+use Rattle.sheet.proofs.Lengths.{Small, AllSmall, none, more}
 
 -- Numbers
 
-numeral : (n : ℕ) → n < 10 ^ 9 → Numeral n (decimal n)
+numeral : (n : ℕ) → n < 10 ^ 10 → Numeral n (decimal n)
 numeral n h = decimal-numeral n (omega arith)
 
-decimal-same : (n m : ℕ) → n < 10 ^ 9 → m < 10 ^ 9 → decimal n ≡ decimal m → n ≡ m
-decimal-same n m hn hm e =
-    let s : some n ≡ some m = sym (unsigned-decimal n hn) ∙ ap unsigned e ∙ unsigned-decimal m hm in
-    cc
+decimal-same : (n m : ℕ) → n < 10 ^ 10 → m < 10 ^ 10 → decimal n ≡ decimal m → n ≡ m
+decimal-same n m hn hm e = sym (numeral n hn .worth) ∙ ap (value 0) e ∙ numeral m hm .worth
 
 -- two numbers, each ended by a byte that is no digit
-field-same : (n m end : ℕ) (r s : List ℕ) → isDigit end ≡ false → n < 10 ^ 9 → m < 10 ^ 9 → field n end ++ r ≡ field m end ++ s → (n ≡ m) × (r ≡ s)
+field-same : (n m end : ℕ) (r s : List ℕ) → isDigit end ≡ false → n < 10 ^ 10 → m < 10 ^ 10 → field n end ++ r ≡ field m end ++ s → (n ≡ m) × (r ≡ s)
 unfolding field
 field-same n m end r s d hn hm e = (decimal-same n m hn hm fronts, rests)
   where
@@ -52,10 +50,6 @@ field-same n m end r s d hn hm e = (decimal-same n m hn hm fronts, rests)
 
 -- Leads
 
--- a code of T, F or a literal of a net with at most nine digits
-abbrev pub Small : ℕ → Type 0
-Small code = code < 2 * 10 ^ 9
-
 noLf : ℕ → Bool
 noLf b = not (eqb b lf)
 
@@ -64,7 +58,7 @@ unfolding noLf isDigit
 digit-no-lf b e = cases (eqb b lf) (λ t. absurd (false≢true (rw (eqb-true b lf t) at e))) (λ t. rw t)
 
 -- the first byte of a decimal is a digit
-decimal-first : (n : ℕ) → n < 10 ^ 9 → (b : ℕ) (l : List ℕ) → decimal n ≡ b ∷ l → isDigit b ≡ true
+decimal-first : (n : ℕ) → n < 10 ^ 10 → (b : ℕ) (l : List ℕ) → decimal n ≡ b ∷ l → isDigit b ≡ true
 decimal-first n h b l e = every-head isDigit b l (rw e at (numeral n h .figures))
 
 -- what a lead's text is
@@ -95,7 +89,7 @@ parity-same a b n i = cases (eqb (a % 2) 1)
     (λ t. let k = eqb-false (a % 2) 1 t in let m = eqb-false (b % 2) 1 (sym i ∙ t) in omega arith)
 
 -- a byte that no decimal starts with
-not-first : (n : ℕ) → n < 10 ^ 9 → (b : ℕ) (l : List ℕ) → isDigit b ≡ false → decimal n ≢ b ∷ l
+not-first : (n : ℕ) → n < 10 ^ 10 → (b : ℕ) (l : List ℕ) → isDigit b ≡ false → decimal n ≢ b ∷ l
 not-first n h b l d e = true≢false (sym (decimal-first n h b l e) ∙ d)
 
 lead-same : (a b : ℕ) {k l : List ℕ} → Small a → Small b → LeadIs a k → LeadIs b l → k ≡ l → a ≡ b
@@ -119,10 +113,6 @@ lead-same a b ha hb (is-inverse p) (is-inverse q) e =
     let t : decimal (net a) ≡ decimal (net b) = cc in
     parity-same a b (decimal-same (net a) (net b) (omega arith) (omega arith) t) (p ∙ sym q)
 
-pub data AllSmall : List ℕ → Type 0 where
-  none : AllSmall []
-  more : {code : ℕ} {codes : List ℕ} → Small code → AllSmall codes → AllSmall (code ∷ codes)
-
 lead-line-same : (a b : ℕ) (r s : List ℕ) → Small a → Small b → leadText a ++ (lf ∷ r) ≡ leadText b ++ (lf ∷ s) → (a ≡ b) × (r ≡ s)
 unfolding noLf
 lead-line-same a b r s ha hb e = (lead-same a b ha hb (lead-is a) (lead-is b) fronts, cc behinds)
@@ -145,7 +135,7 @@ lf-no-digit : isDigit lf ≡ false
 unfolding isDigit
 lf-no-digit = refl
 
-field-not-empty : (n end : ℕ) (l : List ℕ) → n < 10 ^ 9 → [] ≢ field n end ++ l
+field-not-empty : (n end : ℕ) (l : List ℕ) → n < 10 ^ 10 → [] ≢ field n end ++ l
 unfolding field
 field-not-empty n end l h e =
     omega (arith, ap length e, length-append (decimal n ++ (end ∷ [])) l, length-append (decimal n) (end ∷ []))
@@ -154,7 +144,7 @@ net-line-parts : (w code : ℕ) (r : List ℕ) → netLine w code ++ r ≡ field
 unfolding netLine
 net-line-parts w code r = simp append-assoc
 
-lines-same : (a b : List ℕ) (w : ℕ) → AllSmall a → AllSmall b → w + length a < 10 ^ 9 → netLines w a ≡ netLines w b → a ≡ b
+lines-same : (a b : List ℕ) (w : ℕ) → AllSmall a → AllSmall b → w + length a < 10 ^ 10 → netLines w a ≡ netLines w b → a ≡ b
 unfolding netLines
 lines-same [] [] w ha hb k e = refl
 lines-same [] (y ∷ b) w ha hb k e = absurd (field-not-empty w comma (leadText y ++ (lf ∷ netLines (suc w) b)) (omega arith) (e ∙ net-line-parts w y (netLines (suc w) b)))
@@ -168,14 +158,14 @@ lines-same (x ∷ a) (y ∷ b) w (more hx ha) (more hy hb) k e =
 
 -- The whole sheet
 
--- an answer as closing gives it for V nets: every number has at most nine digits, and a contradiction has no leads to show
+-- an answer as closing gives it for V nets: every number has at most ten digits, and a contradiction has no leads to show
 pub record Printable (v : ℕ) (a : Answer) : Type 0 where
-  pub nets-small : v < 10 ^ 8
-  pub rounds-small : a .rounds < 10 ^ 9
-  pub ands-small : a .ands < 10 ^ 9
-  pub xors-small : a .xors < 10 ^ 9
-  pub ites-small : a .ites < 10 ^ 9
-  pub groups-small : a .groups < 10 ^ 9
+  pub nets-small : v < 10 ^ 9
+  pub rounds-small : a .rounds < 10 ^ 10
+  pub ands-small : a .ands < 10 ^ 10
+  pub xors-small : a .xors < 10 ^ 10
+  pub ites-small : a .ites < 10 ^ 10
+  pub groups-small : a .groups < 10 ^ 10
   pub leads-length : length (a .leads) ≡ v
   pub leads-small : a .verdict ≢ Contradiction → AllSmall (a .leads)
   pub leads-none : a .verdict ≡ Contradiction → a .leads ≡ replicate v noLead

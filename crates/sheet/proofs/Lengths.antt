@@ -15,9 +15,9 @@ use Rattle.clauses.specs.Code.{net}
 use Rattle.clauses.specs.Number.{decimal}
 use Rattle.clauses.proofs.Decimals.{decimal-length, length-digit, length-more}
 use Rattle.gates.specs.Sign.{isInverse}
-use Rattle.closure.specs.declared.Verdict.{Verdict}
-use Rattle.closure.specs.declared.Verdict.the-variants.{Contradiction, Settled, Unfinished}
-use Rattle.closure.specs.Answer.{Answer}
+use Rattle.rules.specs.declared.Verdict.{Verdict}
+use Rattle.rules.specs.declared.Verdict.the-variants.{Contradiction, Settled, Unfinished}
+use Rattle.rules.specs.Answer.{Answer}
 use Rattle.sheet.specs.Sheet.{comma, namesLine, verdictText, field, valuesLine, leadText, netLine, netLeadLine, netLines, leadLines, sheetText}
 use Rattle.sheet.proofs.Texts.{numbers-length, values-length, sheet-length, net-length}
 
@@ -49,19 +49,22 @@ decimal-short n h = four n h
         go (yes q) = omega (arith, one m q)
         go (no q) = omega (arith, length-more m (omega arith) (omega arith), three (m / 10) (omega arith))
 
-lead-short : (code : ℕ) → code < 20000 → length (leadText code) ≤ 5
+-- a code of T, F or a literal of a net with at most four digits
+abbrev pub Small : ℕ → Type 0
+Small code = code < 20000
+
+lead-short : (code : ℕ) → Small code → length (leadText code) ≤ 5
 unfolding leadText
 lead-short code h =
     let d : length (decimal (net code)) ≤ 4 = decimal-short (net code) (omega arith) in
     cases (eqb code 0) (λ z. rw z (omega arith))
     (λ z. cases (eqb code 1) (λ o. rw (z, o) (omega arith)) (λ o. cases (isInverse code) (λ i. rw (z, o, i) (omega arith)) (λ i. rw (z, o, i) (omega arith))))
 
--- every code of the row is of a net with at most four digits
-pub data Short : List ℕ → Type 0 where
-  none : Short []
-  more : {code : ℕ} {codes : List ℕ} → code < 20000 → Short codes → Short (code ∷ codes)
+pub data AllSmall : List ℕ → Type 0 where
+  none : AllSmall []
+  more : {code : ℕ} {codes : List ℕ} → Small code → AllSmall codes → AllSmall (code ∷ codes)
 
-nets-short : (w : ℕ) {codes : List ℕ} → Short codes → w + length codes ≤ 10000 → length (netLines w codes) ≤ 11 * length codes
+nets-short : (w : ℕ) {codes : List ℕ} → AllSmall codes → w + length codes ≤ 10000 → length (netLines w codes) ≤ 11 * length codes
 unfolding netLines
 nets-short w none h = omega arith
 nets-short w (more {code = code} {codes = codes} k s) h =
@@ -95,7 +98,7 @@ values-short v a =
       decimal-length (a .groups),
     )
 
-leads-short : (w : Verdict) (leads : List ℕ) → (w ≢ Contradiction → Short leads) → length leads ≤ 1024 → length (leadLines w leads) ≤ 11273
+leads-short : (w : Verdict) (leads : List ℕ) → (w ≢ Contradiction → AllSmall leads) → length leads ≤ 1024 → length (leadLines w leads) ≤ 11273
 unfolding leadLines netLeadLine
 leads-short Contradiction leads s h = omega arith
 leads-short Settled leads s h =
@@ -104,6 +107,6 @@ leads-short Unfinished leads s h =
     omega (arith, length-append netLeadLine (netLines 1 leads), nets-short 1 (s (λ e. let z : _≡_ {A = ℕ} 0 1 = cc in omega arith)) (omega arith))
 
 -- a sheet for at most 1,024 nets fits the buffer that it asks for
-pub sheet-fits : (v : ℕ) (a : Answer) → (a .verdict ≢ Contradiction → Short (a .leads)) → length (a .leads) ≤ 1024 → length (sheetText v a) ≤ 16384
+pub sheet-fits : (v : ℕ) (a : Answer) → (a .verdict ≢ Contradiction → AllSmall (a .leads)) → length (a .leads) ≤ 1024 → length (sheetText v a) ≤ 16384
 unfolding namesLine
 sheet-fits v a s h = omega (arith, sheet-length v a, values-short v a, leads-short (a .verdict) (a .leads) s h)

@@ -13,7 +13,7 @@ use Rattle.clauses.specs.Bytes.{lf, minus}
 use Rattle.clauses.specs.Number.{decimal}
 use Rattle.gates.specs.Sign.{isInverse}
 use Rattle.closure.specs.declared.close.Summary.{Summary}
-use Rattle.closure.specs.Answer.{Answer}
+use Rattle.rules.specs.Answer.{Answer}
 use Rattle.sheet.specs.Sheet.{comma, namesLine, verdictText, field, numbersText, valuesLine, leadText, netLine, netLines, leadLines, sheetText, answerOf}
 
 module _ (code : ℕ) where

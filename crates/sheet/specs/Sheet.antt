@@ -8,10 +8,10 @@ use Rattle.clauses.specs.Bytes.{lf, minus}
 use Rattle.clauses.specs.Code.{net}
 use Rattle.clauses.specs.Number.{decimal}
 use Rattle.gates.specs.Sign.{isInverse}
-use Rattle.closure.specs.declared.Verdict.{Verdict}
-use Rattle.closure.specs.declared.Verdict.the-variants.{Contradiction, Settled, Unfinished}
+use Rattle.rules.specs.declared.Verdict.{Verdict}
+use Rattle.rules.specs.declared.Verdict.the-variants.{Contradiction, Settled, Unfinished}
 use Rattle.closure.specs.declared.close.Summary.{Summary}
-use Rattle.closure.specs.Answer.{Answer}
+use Rattle.rules.specs.Answer.{Answer}
 
 abbrev pub comma : ℕ
 comma = 44

@@ -1,3 +1,5 @@
 // The sheet: closing's answer as text.
 
-pub mod lines;
+pub mod compare;
+mod lines;
+pub mod write;

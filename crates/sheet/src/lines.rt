@@ -10,8 +10,8 @@ use clauses::writing::put;
 use clauses::writing::put_bytes;
 use clauses::writing::put_decimal;
 use clauses::writing::put_word;
-use closure::Verdict;
 use closure::close::Summary;
+use rules::Verdict;
 
 // Puts a verdict.
 fn put_verdict(text: &mut [u8], at: usize, verdict: Verdict) -> usize

@@ -1,0 +1,32 @@
+-- What the program answers to a text: the sheet of its list under round limit V + 1.
+-- Assumes nothing.
+use mathlib.Core.List.{List}
+use Prim.Native.Nat.{ℕ, _+_}
+use lib.IntN.{ℤ, pos}
+use lib.ListN.{take, replicate}
+use Rattle.clauses.specs.declared.reading.Reading.{Reading}
+use Rattle.clauses.specs.declared.reading.Reading.the-variants as R
+use Rattle.clauses.specs.Reading.{reading}
+use Rattle.closure.specs.Closing.{maxWork}
+use Rattle.sheet.specs.Writing.{writing}
+use Rattle.sheet.specs.declared.write.Writing.{Writing}
+use Rattle.sheet.specs.declared.write.Writing.the-variants.{Refused}
+
+-- what it answers, and what the lent buffer then holds
+pub record Outcome : Type 0 where
+  pub result : Writing
+  pub text : List ℕ
+
+-- a literal row with room for the numbers of any text of at most 65,536 bytes
+abbrev pub emptyRow : List ℤ
+emptyRow = replicate 32763 (pos 0)
+
+-- 'The program reads DIMACS text from standard input, uses round limit V + 1 and prints the sheet'
+unfoldable pub sheetOf : Reading → List ℤ → List ℕ → Outcome
+sheetOf (R.Refused r) row text = record { result = Refused r; text = text }
+sheetOf (R.Accepted s) row text =
+    let o = writing (s .nets) (s .clauses) (take (s .entries) row) (s .nets + 1) (replicate 1024 0) (replicate maxWork 0) text in
+    record { result = o .result; text = o .text }
+
+unfoldable pub comparing : List ℕ → List ℕ → Outcome
+comparing input text = sheetOf (reading input emptyRow .result) (reading input emptyRow .row) text
