@@ -7,11 +7,11 @@ use clauses::reading::read;
 use clauses::refusal::Refusal;
 use clauses::refusal::number;
 use clauses::refusal::place;
-use closure::Verdict;
 use closure::close::Closing;
 use closure::close::Summary;
 use closure::close::close;
 use libc::STDOUT_FILENO;
+use rules::Verdict;
 
 fn show(bytes: &[u8]) {
     io::write_all(STDOUT_FILENO, bytes);

@@ -1,15 +1,14 @@
 // Runs document 01's cases of reading and printing, one line each: its name; what the answer is; and whether what was
 // lent kept its contents, past what was written.
 
-mod made;
 mod shown;
 
 use clauses::printing::print;
 use clauses::reading::read;
-use made::put_bytes;
-use made::put_times;
 use shown::show_printing;
 use shown::show_reading;
+use support::made::put_bytes;
+use support::made::put_times;
 
 // Reads a text into a row that holds 7 everywhere.
 fn reads_into(name: &[u8], text: &[u8], row: &mut [i32]) {

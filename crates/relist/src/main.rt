@@ -4,20 +4,9 @@ use clauses::printing::Printing;
 use clauses::printing::print;
 use clauses::reading::Reading;
 use clauses::reading::read;
-use clauses::refusal::Refusal;
-use clauses::refusal::number;
-use clauses::refusal::place;
 use libc::STDIN_FILENO;
 use libc::STDOUT_FILENO;
-
-// Prints a refusal: its number and its place.
-fn print_refusal(r: Refusal) {
-    io::write_all(STDOUT_FILENO, b"refusal,place\n");
-    io::print_decimal(STDOUT_FILENO, number(r) as u64);
-    io::write_all(STDOUT_FILENO, b",");
-    io::print_decimal(STDOUT_FILENO, place(r) as u64);
-    io::write_all(STDOUT_FILENO, b"\n");
-}
+use support::shown::print_refusal;
 
 // Prints a list back, by way of a buffer that holds any text that printing accepts.
 fn print_list(v: u32, c: u32, row: &[i32]) {

@@ -23,7 +23,7 @@ enum-known-s : tie.Need-enum-known-s
 enum-known-s c = search needs
 
 array-share-prefix-row : tie.Need-array-share-prefix-row
-array-share-prefix-row c = rw (c .before .before .before .before .read .ensures .1) (read-within _ _ _ (sym (c .before .before .before .before .read .ensures .0) ∙ c .before .s .given .1))
+array-share-prefix-row c = rw (c .before .before .before .before .read .ensures .1) (read-within _ _ _ (sym (c .before .before .before .before .read .ensures .0) ∙ c .before .s .given .1) .0)
 
 slice-aggregate-print-list : tie.Need-slice-aggregate-print-list
 slice-aggregate-print-list c = sym (length-take-le _ _ (array-share-prefix-row (c .before)))

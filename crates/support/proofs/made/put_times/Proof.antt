@@ -1,11 +1,11 @@
--- `reading_cases::made::put_times` is safe and ends.
+-- `support::made::put_times` is safe and ends.
 -- Assumes nothing.
 use mathlib.Core.Path.{_≡_, refl, _∙_}
 use Prim.Native.Nat.{_-_}
 use native.Mathlib.Omega.{arith}
 use lib.ListN.{length}
-use Rattle.reading_cases.proofs.made.put_times.Statement.{statement}
-use Rattle.reading_cases.proofs.made.put_times.Tie as tie
+use Rattle.support.proofs.made.put_times.Statement.{statement}
+use Rattle.support.proofs.made.put_times.Tie as tie
 
 abbrev Inv-loop : tie.InvT-loop
 Inv-loop text₀ at word times next₀ i₀ text next i = length text ≡ length text₀
