@@ -1,0 +1,63 @@
+-- `cuddremai_c::cuddremai_sheet` meets its contract.
+-- Assumes nothing.
+use borrow.Author.Needs.{needs}
+use Rattle.cuddremai_c.proofs.Calls.{sheet-refused, sheet-written}
+use Rattle.cuddremai_c.proofs.cuddremai_sheet.Statement.{statement}
+use Rattle.cuddremai_c.proofs.cuddremai_sheet.Tie as tie
+
+write-requires : tie.Need-write-requires
+write-requires c κs = search needs
+
+enum-known-r : tie.Need-enum-known-r
+enum-known-r c = search needs
+
+place-requires : tie.Need-place-requires
+place-requires c κs = search needs
+
+number-requires : tie.Need-number-requires
+number-requires c κs = search needs
+
+enum-known-n : tie.Need-enum-known-n
+enum-known-n c = search needs
+
+same-length : tie.Need-same-length
+same-length c = search needs
+
+same-length-2 : tie.Need-same-length-2
+same-length-2 c = search needs
+
+same-length-3 : tie.Need-same-length-3
+same-length-3 c = search needs
+
+returns : tie.Need-returns
+returns c = sheet-refused (c .number .ensures) (c .before .place .ensures) (c .before .before .before .before .before .before .before .before .before .before .before .write .ensures) (c .before .before .before .r .given .1)
+
+same-length-4 : tie.Need-same-length-4
+same-length-4 c = search needs
+
+same-length-5 : tie.Need-same-length-5
+same-length-5 c = search needs
+
+same-length-6 : tie.Need-same-length-6
+same-length-6 c = search needs
+
+returns-2 : tie.Need-returns-2
+returns-2 c = sheet-written _ (c .before .before .before .before .before .before .before .before .before .write .ensures) (c .before .n .given .1)
+
+pub cuddremai-sheet-spec : {M : Type 1} → statement M
+cuddremai-sheet-spec =
+    tie.close
+    (tie.spec
+    write-requires
+    enum-known-r
+    place-requires
+    number-requires
+    enum-known-n
+    same-length
+    same-length-2
+    same-length-3
+    returns
+    same-length-4
+    same-length-5
+    same-length-6
+    returns-2)

@@ -1,0 +1,21 @@
+//! Reads DIMACS text from standard input and prints its sheet.
+//!
+//!     rt staticlib cuddremai_c
+//!     rustc -O examples/rust/sheet.rs -C link-arg=target/staticlib/libcuddremai_c.a -o sheet
+//!     ./sheet < examples/two_ands.cnf
+
+#[allow(dead_code)]
+mod cuddremai;
+
+use std::io::{self, Read, Write};
+
+fn main() -> io::Result<()> {
+    let mut input = Vec::new();
+    io::stdin().read_to_end(&mut input)?;
+    let mut text = [0; cuddremai::SHEET];
+    let mut out = io::stdout();
+    match cuddremai::compare(&input, &mut text) {
+        Ok(written) => out.write_all(&text[..written]),
+        Err(r) => writeln!(out, "refusal,place\n{},{}", r.number, r.place),
+    }
+}
