@@ -1,186 +1,259 @@
-//! Compares the compiled program with the reference on random lists: driver PROGRAM [LISTS PER KIND] [SEED].
+//! Compares the compiled program with the reference on random lists:
+//! driver PROGRAM [LISTS OF EACH KIND] [SEED] [FAULTS AFTER WHICH THE RUN ENDS].
 
+mod changes;
+mod large;
 mod lists;
+mod program;
 mod random;
+mod sheets;
+mod shrink;
+mod stated;
+mod table;
+mod texts;
+mod truth;
 
-use lists::{damaged, dressed, random_list, text_of, List, KINDS};
+use lists::{Kind, List};
 use random::Random;
-use std::io::Write;
-use std::process::{Command, Stdio};
+use std::sync::atomic::{AtomicUsize, Ordering};
+use std::sync::Mutex;
+use std::time::{Duration, Instant};
+use table::Table;
 
-/// What the program prints for a text.
-fn run(program: &str, text: &[u8]) -> String {
-    let mut child = Command::new(program)
-        .stdin(Stdio::piped())
-        .stdout(Stdio::piped())
-        .spawn()
-        .unwrap_or_else(|e| panic!("cannot run {program}: {e}"));
-    let mut input = child.stdin.take().unwrap();
-    let text = text.to_vec();
-    let writer = std::thread::spawn(move || {
-        let _ = input.write_all(&text);
-    });
-    let output = child.wait_with_output().expect("the program's output");
-    let _ = writer.join();
-    String::from_utf8_lossy(&output.stdout).into_owned()
+/// A program that has not answered by then hangs.
+const PATIENCE: Duration = Duration::from_secs(120);
+
+/// Whether there was something to check in a list, or what is wrong.
+type Check<'a> = dyn Fn(&List) -> Result<bool, String> + 'a;
+
+/// One kind of texts and how many of them are made.
+struct Work {
+    kind: &'static str,
+    count: usize,
+    make: Make,
 }
 
-fn differs(program: &str, text: &[u8]) -> bool {
-    run(program, text) != reference::answer_text(text)
+#[derive(Clone, Copy)]
+enum Make {
+    Small(&'static Kind),
+    Large(&'static Kind),
+    Padded,
+    Damaged,
+    TurnedAway,
 }
 
-/// Drops clauses, then literals, as long as the two still differ.
-fn shrink(program: &str, list: &List) -> List {
-    let mut small = list.clone();
-    loop {
-        let mut tries: Vec<List> = Vec::new();
-        for i in 0..small.clauses.len() {
-            let mut t = small.clone();
-            t.clauses.remove(i);
-            tries.push(t);
-            for j in 0..small.clauses[i].len() {
-                let mut t = small.clone();
-                t.clauses[i].remove(j);
-                tries.push(t);
+fn plan(count: usize) -> Vec<Work> {
+    let mut plan = vec![Work { kind: "most ites", count: 1, make: Make::Large(&large::MOST_ITES) }];
+    for kind in &large::LARGE {
+        plan.push(Work { kind: kind.name, count: count / 30 + 3, make: Make::Large(kind) });
+    }
+    for kind in &lists::KINDS {
+        plan.push(Work { kind: kind.name, count, make: Make::Small(kind) });
+    }
+    plan.push(Work { kind: "padded", count: count / 10 + 10, make: Make::Padded });
+    plan.push(Work { kind: "damaged", count: 10 * count, make: Make::Damaged });
+    plan.push(Work { kind: "turned away", count: count / 2 + 20, make: Make::TurnedAway });
+    plan
+}
+
+struct Run {
+    program: String,
+    seed: u64,
+    most_faults: usize,
+    plan: Vec<Work>,
+    next: AtomicUsize,
+    table: Mutex<Table>,
+    /// what each worker does, and since when
+    busy: Vec<Mutex<Option<(Instant, String)>>>,
+}
+
+impl Run {
+    /// The work with a number, and which of its kind it is.
+    fn job(&self, mut number: usize) -> Option<(&Work, usize)> {
+        for work in &self.plan {
+            if number < work.count {
+                return Some((work, number));
+            }
+            number -= work.count;
+        }
+        None
+    }
+
+    fn work(&self, worker: usize) {
+        while let Some((work, i)) = self.job(self.next.fetch_add(1, Ordering::Relaxed)) {
+            if self.table.lock().unwrap().faults() >= self.most_faults {
+                break;
+            }
+            let start = Instant::now();
+            *self.busy[worker].lock().unwrap() = Some((start, format!("{} {i}", work.kind)));
+            let name = work.kind.bytes().fold(i as u64, |sum, b| sum.wrapping_mul(257).wrapping_add(b as u64));
+            self.check(work, i, &mut Random::new(self.seed ^ name.wrapping_mul(0x2545_f491_4f6c_dd1d)));
+            self.table.lock().unwrap().row(work.kind).seconds += start.elapsed().as_secs_f64();
+        }
+        *self.busy[worker].lock().unwrap() = None;
+    }
+
+    fn check(&self, work: &Work, i: usize, r: &mut Random) {
+        match work.make {
+            Make::Small(kind) => {
+                let list = lists::random_list(kind, r);
+                self.check_list(work.kind, &list, i % 3 == 0, r);
+                self.check_change(work.kind, &list, r);
+                self.check_truth(work.kind, &list);
+            }
+            Make::Large(kind) => {
+                let list = (kind.make)(r);
+                self.check_list(work.kind, &list, false, r);
+                self.check_change(work.kind, &list, r);
+            }
+            Make::Padded => self.check_text(work.kind, &texts::padded(&any_list(r), r)),
+            Make::TurnedAway => self.check_text(work.kind, &texts::turned_away(r)),
+            Make::Damaged => {
+                let list = any_list(r);
+                let text = if i % 2 == 0 { texts::dressed(&list, r) } else { texts::plain(&list) };
+                self.check_text(work.kind, &texts::damaged(text, r));
             }
         }
-        match tries.into_iter().find(|t| differs(program, &text_of(t))) {
-            Some(t) => small = t,
-            None => return small,
+    }
+
+    /// True if the program prints what the reference prints; counts it.
+    fn compare(&self, kind: &'static str, text: &[u8]) -> bool {
+        let expected = reference::answer_text(text);
+        let same = program::answer(&self.program, text) == expected;
+        let mut table = self.table.lock().unwrap();
+        table.row(kind).compared += 1;
+        if same {
+            table.count(&expected);
+        }
+        same
+    }
+
+    fn differs(&self, text: &[u8]) -> bool {
+        program::answer(&self.program, text) != reference::answer_text(text)
+    }
+
+    fn check_list(&self, kind: &'static str, list: &List, dress: bool, r: &mut Random) {
+        let text = if dress { texts::dressed(list, r) } else { texts::plain(list) };
+        if self.compare(kind, &text) {
+            return;
+        }
+        let fails = |l: &List| self.differs(&texts::plain(l));
+        let text = if fails(list) { texts::plain(&shrink::list(list, &fails)) } else { text };
+        self.report_difference(kind, &text);
+    }
+
+    fn check_text(&self, kind: &'static str, text: &[u8]) {
+        if !self.compare(kind, text) {
+            self.report_difference(kind, &shrink::text(text, &|t| self.differs(t)));
         }
     }
-}
 
-fn report(program: &str, kind: &str, text: &[u8]) {
-    println!("difference ({kind}) on:\n{}", String::from_utf8_lossy(text));
-    println!("program:\n{}reference:\n{}", run(program, text), reference::answer_text(text));
-}
-
-/// The leads of a sheet, as literals with T and F as in the reference; none on contradiction.
-fn leads_of(sheet: &str) -> Option<Vec<i64>> {
-    let lines: Vec<&str> = sheet.lines().collect();
-    if lines.get(2) != Some(&"net,lead") {
-        return None;
+    fn check_change(&self, kind: &'static str, list: &List, r: &mut Random) {
+        let seed = r.next();
+        let check = |l: &List| changes::check(&self.program, l, &mut Random::new(seed));
+        let compared = self.check_with(kind, "a changed list differs", list, &check);
+        self.table.lock().unwrap().row(kind).changed += usize::from(compared);
     }
-    Some(
-        lines[3..]
-            .iter()
-            .map(|l| match l.split(',').nth(1) {
-                Some("T") => reference::T,
-                Some("F") => reference::F,
-                Some(x) => x.parse().expect("a lead"),
-                None => panic!("a line without a lead: {l}"),
-            })
-            .collect(),
-    )
-}
 
-fn lead(leads: &[i64], x: i64) -> i64 {
-    let l = leads[x.unsigned_abs() as usize - 1];
-    if x < 0 { -l } else { l }
-}
-
-/// Demand 3: a renamed, reordered, repeated list has the same sheet but for names.
-fn renamed_agrees(program: &str, list: &List, r: &mut Random) -> bool {
-    let mut image: Vec<i64> = (1..=list.nets as i64).collect();
-    r.shuffle(&mut image);
-    for x in image.iter_mut() {
-        if r.once_in(2) {
-            *x = -*x;
+    fn check_truth(&self, kind: &'static str, list: &List) {
+        if list.nets > truth::MOST_NETS {
+            return;
         }
+        let tried = self.check_with(kind, "a sheet is not true", list, &|l| truth::check(&self.program, l));
+        self.table.lock().unwrap().row(kind).truths += usize::from(tried);
     }
-    let to = |x: i64| if x < 0 { -image[-x as usize - 1] } else { image[x as usize - 1] };
-    let mut other: Vec<Vec<i64>> = list.clauses.iter().map(|c| c.iter().map(|&l| to(l)).collect()).collect();
-    for c in other.iter_mut() {
-        r.shuffle(c);
-    }
-    r.shuffle(&mut other);
-    if let Some(c) = other.first().cloned() {
-        other.push(c);
-    }
-    let other = List { nets: list.nets, clauses: other };
-    let (a, b) = (run(program, &text_of(list)), run(program, &text_of(&other)));
-    if a.lines().nth(1) != b.lines().nth(1) {
-        return false;
-    }
-    match (leads_of(&a), leads_of(&b)) {
-        (Some(p), Some(q)) => (1..=list.nets as i64).all(|x| {
-            (x + 1..=list.nets as i64).all(|y| {
-                (lead(&p, x) == lead(&p, y)) == (lead(&q, to(x)) == lead(&q, to(y)))
-                    && (lead(&p, x) == -lead(&p, y)) == (lead(&q, to(x)) == -lead(&q, to(y)))
-            }) && (lead(&p, x) == reference::T) == (lead(&q, to(x)) == reference::T)
-        }),
-        (None, None) => true,
-        _ => false,
-    }
-}
 
-/// Every satisfying assignment gives each net its lead's value; a contradiction has none.
-fn is_true(program: &str, list: &List) -> bool {
-    let sheet = run(program, &text_of(list));
-    let leads = leads_of(&sheet);
-    (0u32..1 << list.nets).all(|values| {
-        let value = |x: i64| match x {
-            reference::T => true,
-            reference::F => false,
-            _ => (values >> (x.unsigned_abs() - 1) & 1 == 1) == (x > 0),
-        };
-        let satisfied = list.clauses.iter().all(|c| c.iter().any(|&l| value(l)));
-        !satisfied
-            || match &leads {
-                None => !sheet.contains("contradiction"),
-                Some(leads) => (1..=list.nets).all(|v| value(v as i64) == value(leads[v - 1])),
+    /// Whether there was something to check; a fault is made smaller and reported.
+    fn check_with(&self, kind: &'static str, what: &str, list: &List, check: &Check) -> bool {
+        if let Ok(checked) = check(list) {
+            return checked;
+        }
+        let small = shrink::list(list, &|l| check(l).is_err());
+        self.report(kind, what, &texts::plain(&small), &check(&small).err().unwrap_or_default());
+        true
+    }
+
+    fn report_difference(&self, kind: &'static str, text: &[u8]) {
+        let (found, expected) = (program::answer(&self.program, text), reference::answer_text(text));
+        self.report(kind, "program and reference differ", text, &format!("program:\n{found}reference:\n{expected}"));
+    }
+
+    fn report(&self, kind: &'static str, what: &str, text: &[u8], more: &str) {
+        let mut table = self.table.lock().unwrap();
+        table.row(kind).faults += 1;
+        println!("FAULT ({kind}): {what} on the text \"{}\"\n{more}", text.escape_ascii());
+    }
+
+    /// Ends the run if a worker has been busy for too long.
+    fn watch(&self) {
+        loop {
+            std::thread::sleep(Duration::from_millis(50));
+            let busy: Vec<_> = self.busy.iter().filter_map(|b| b.lock().unwrap().clone()).collect();
+            if busy.is_empty() {
+                return;
             }
-    })
+            if let Some((_, job)) = busy.iter().find(|(since, _)| since.elapsed() > PATIENCE) {
+                println!("FAULT: no answer within {PATIENCE:?} to {job} of seed {}", self.seed);
+                std::process::exit(1);
+            }
+        }
+    }
+}
+
+fn any_list(r: &mut Random) -> List {
+    let kind = &lists::KINDS[r.below(lists::KINDS.len())];
+    lists::random_list(kind, r)
+}
+
+/// The answers that document 01 states; how many were not given.
+fn check_stated(program: &str) -> usize {
+    let mut faults = 0;
+    for case in &stated::STATED {
+        let (text, expected) = (case.0.as_bytes(), stated::printed(case));
+        for (who, found) in [("reference", reference::answer_text(text)), ("program", program::answer(program, text))] {
+            if found != expected {
+                faults += 1;
+                println!(
+                    "FAULT (stated): the {who} prints for \"{}\"\n{found}and not\n{expected}",
+                    text.escape_ascii()
+                );
+            }
+        }
+    }
+    println!("{} stated answers, {faults} faults", stated::STATED.len());
+    faults
+}
+
+fn seed_of_now() -> u64 {
+    std::time::SystemTime::now().duration_since(std::time::UNIX_EPOCH).map_or(1, |d| d.as_secs())
 }
 
 fn main() {
     let args: Vec<String> = std::env::args().collect();
-    let program = args.get(1).expect("usage: driver PROGRAM [LISTS PER KIND] [SEED]");
+    let program = args.get(1).expect("usage: driver PROGRAM [LISTS OF EACH KIND] [SEED] [MOST FAULTS]").clone();
     let count: usize = args.get(2).map_or(300, |n| n.parse().expect("a number of lists"));
-    let seed: u64 = args.get(3).map_or_else(
-        || std::time::SystemTime::now().duration_since(std::time::UNIX_EPOCH).map_or(1, |d| d.as_secs()),
-        |s| s.parse().expect("a seed"),
-    );
-    println!("seed {seed}");
-    let mut r = Random::new(seed);
-    let (mut passed, mut failed) = (0, 0);
-    let mut tell = |ok: bool| if ok { passed += 1 } else { failed += 1 };
-    for kind in KINDS {
-        let lists = if kind == "limits" { count / 30 + 1 } else { count };
-        for i in 0..lists {
-            let list = random_list(kind, &mut r);
-            let text = if i % 3 == 0 { dressed(&list, &mut r) } else { text_of(&list) };
-            let wrong = differs(program, &text);
-            if wrong {
-                report(program, kind, &text_of(&shrink(program, &list)));
-            }
-            tell(!wrong);
-            if kind != "limits" && list.nets > 0 && i % 4 == 0 {
-                let ok = renamed_agrees(program, &list, &mut r);
-                if !ok {
-                    println!("a renamed list differs ({kind}):\n{}", String::from_utf8_lossy(&text_of(&list)));
-                }
-                tell(ok);
-            }
-            if list.nets <= 9 && i % 4 == 1 {
-                let ok = is_true(program, &list);
-                if !ok {
-                    println!("a lead is not true ({kind}):\n{}", String::from_utf8_lossy(&text_of(&list)));
-                }
-                tell(ok);
-            }
-            let text = damaged(text, &mut r);
-            let wrong = text.len() < 70_000 && differs(program, &text);
-            if wrong {
-                report(program, "damaged", &text);
-            }
-            tell(!wrong);
+    let seed = args.get(3).map_or_else(seed_of_now, |s| s.parse().expect("a seed"));
+    let most_faults = args.get(4).map_or(8, |n| n.parse().expect("a number of faults"));
+    println!("seed {seed}, {count} lists of each kind");
+    let mut faults = check_stated(&program);
+    let workers = std::thread::available_parallelism().map_or(1, |n| n.get());
+    let busy = (0..workers).map(|_| Mutex::new(Some((Instant::now(), "its start".to_string())))).collect();
+    let (plan, next) = (plan(count), AtomicUsize::new(0));
+    let run = Run { program, seed, most_faults, plan, next, table: Mutex::new(Table::default()), busy };
+    std::thread::scope(|s| {
+        let run = &run;
+        (0..workers).for_each(|w| drop(s.spawn(move || run.work(w))));
+        run.watch();
+    });
+    let table = run.table.lock().unwrap();
+    table.print();
+    faults += table.faults();
+    if table.faults() < most_faults {
+        for number in table.missing_refusals() {
+            faults += 1;
+            println!("FAULT: refusal {number} never came");
         }
-        println!("{kind}: {lists} lists");
     }
-    println!("{passed} passed, {failed} failed");
-    if failed > 0 {
-        std::process::exit(1);
-    }
+    println!("{faults} faults");
+    std::process::exit(if faults == 0 { 0 } else { 1 });
 }

@@ -1,236 +1,55 @@
-//! Random clause lists of many kinds, and their texts.
+//! Random clause lists of many kinds.
 
 use crate::random::Random;
 
 pub type Clauses = Vec<Vec<i64>>;
 
-#[derive(Clone)]
+#[derive(Clone, Default)]
 pub struct List {
     pub nets: usize,
     pub clauses: Clauses,
 }
 
-pub const KINDS: [&str; 9] =
-    ["clauses", "gates", "xors", "multiplexers", "chains", "miters", "units", "wide", "limits"];
-
-pub fn random_list(kind: &str, r: &mut Random) -> List {
-    let mut list = match kind {
-        "clauses" => random_clauses(r),
-        "gates" => random_gates(r),
-        "xors" => random_xors(r),
-        "multiplexers" => multiplexers(r),
-        "chains" => chains(r),
-        "miters" => miter(r),
-        "units" => units(r),
-        "wide" => wide(r),
-        _ => limits(r),
-    };
-    if kind != "limits" {
-        disturb(&mut list, r);
+impl List {
+    fn over(nets: usize) -> List {
+        List { nets, clauses: Clauses::new() }
     }
+
+    /// A net that stands in no clause yet.
+    pub fn fresh(&mut self) -> i64 {
+        self.nets += 1;
+        self.nets as i64
+    }
+}
+
+pub struct Kind {
+    pub name: &'static str,
+    pub make: fn(&mut Random) -> List,
+}
+
+pub const KINDS: [Kind; 13] = [
+    Kind { name: "clauses", make: random_clauses },
+    Kind { name: "gates", make: random_gates },
+    Kind { name: "contradictory", make: contradictory },
+    Kind { name: "near gates", make: near_gates },
+    Kind { name: "xors", make: random_xors },
+    Kind { name: "multiplexers", make: multiplexers },
+    Kind { name: "ands", make: ands },
+    Kind { name: "aliases", make: aliases },
+    Kind { name: "chains", make: chains },
+    Kind { name: "longest", make: |r| longest(r.between(4, 40), r) },
+    Kind { name: "miters", make: small_miter },
+    Kind { name: "units", make: units },
+    Kind { name: "wide", make: wide },
+];
+
+/// A random list of a kind, its clauses out of order, some repeated, some missing.
+pub fn random_list(kind: &Kind, r: &mut Random) -> List {
+    let mut list = (kind.make)(r);
+    disturb(&mut list, r);
     list
 }
 
-fn literal(nets: usize, r: &mut Random) -> i64 {
-    let v = r.between(1, nets) as i64;
-    if r.once_in(2) { v } else { -v }
-}
-
-/// Different nets with random signs.
-fn pins(nets: usize, count: usize, r: &mut Random) -> Vec<i64> {
-    let mut all: Vec<i64> = (1..=nets as i64).collect();
-    r.shuffle(&mut all);
-    all.truncate(count);
-    all.into_iter().map(|v| if r.once_in(2) { v } else { -v }).collect()
-}
-
-fn random_clauses(r: &mut Random) -> List {
-    let nets = r.between(0, 7);
-    let count = r.between(0, 24);
-    let clauses = (0..count)
-        .map(|_| {
-            let length = if nets == 0 || r.once_in(40) { 0 } else { r.between(1, 4) };
-            (0..length).map(|_| literal(nets, r)).collect()
-        })
-        .collect();
-    List { nets, clauses }
-}
-
-pub fn and_clauses(l: i64, inputs: &[i64]) -> Clauses {
-    let mut clauses: Clauses = inputs.iter().map(|&i| vec![-l, i]).collect();
-    clauses.push(std::iter::once(l).chain(inputs.iter().map(|i| -i)).collect());
-    clauses
-}
-
-/// All clauses over the literals that say that their sum is odd.
-pub fn xor_clauses(literals: &[i64]) -> Clauses {
-    (0u32..1 << literals.len())
-        .filter(|signs| signs.count_ones() % 2 == 0)
-        .map(|signs| literals.iter().enumerate().map(|(i, &l)| if signs >> i & 1 == 1 { -l } else { l }).collect())
-        .collect()
-}
-
-pub fn ite_clauses(l: i64, c: i64, t: i64, e: i64) -> Clauses {
-    vec![vec![-c, -l, t], vec![-c, l, -t], vec![c, -l, e], vec![c, l, -e]]
-}
-
-fn random_gate(nets: usize, r: &mut Random) -> Clauses {
-    match r.below(3) {
-        0 => {
-            let count = r.between(3, 5.min(nets));
-            let p = pins(nets, count, r);
-            and_clauses(p[0], &p[1..])
-        }
-        1 => {
-            let count = r.between(3, 5.min(nets));
-            xor_clauses(&pins(nets, count, r))
-        }
-        _ => {
-            let p = pins(nets, 4, r);
-            ite_clauses(p[0], p[1], p[2], p[3])
-        }
-    }
-}
-
-fn random_gates(r: &mut Random) -> List {
-    let nets = r.between(4, 9);
-    let mut clauses = Clauses::new();
-    for _ in 0..r.between(1, 6) {
-        clauses.extend(random_gate(nets, r));
-    }
-    for _ in 0..r.below(4) {
-        clauses.push((0..r.between(1, 2)).map(|_| literal(nets, r)).collect());
-    }
-    List { nets, clauses }
-}
-
-fn random_xors(r: &mut Random) -> List {
-    let nets = r.between(5, 9);
-    let mut clauses = Clauses::new();
-    for _ in 0..r.between(1, 5) {
-        let count = r.between(3, 5);
-        clauses.extend(xor_clauses(&pins(nets, count, r)));
-    }
-    for _ in 0..r.below(3) {
-        let p = pins(nets, 2, r);
-        clauses.push(vec![p[0], p[1]]);
-        clauses.push(vec![-p[0], -p[1]]);
-    }
-    if r.once_in(3) {
-        clauses.push(vec![literal(nets, r)]);
-    }
-    List { nets, clauses }
-}
-
-/// Multiplexers that share selects, outputs and data nets.
-fn multiplexers(r: &mut Random) -> List {
-    let nets = r.between(4, 8);
-    let selects = pins(nets, r.between(1, 2), r);
-    let outputs = pins(nets, r.between(1, 3), r);
-    let mut clauses = Clauses::new();
-    for _ in 0..r.between(1, 6) {
-        let (l, c) = (r.pick(&outputs), r.pick(&selects));
-        let (t, e) = (literal(nets, r), literal(nets, r));
-        clauses.extend(ite_clauses(l, c, t, e));
-    }
-    if r.once_in(3) {
-        clauses.push(vec![r.pick(&selects)]);
-    }
-    if r.once_in(3) {
-        let p = pins(nets, 2, r);
-        clauses.push(vec![p[0], p[1]]);
-        clauses.push(vec![-p[0], -p[1]]);
-    }
-    List { nets, clauses }
-}
-
-fn chains(r: &mut Random) -> List {
-    let nets = r.between(1, 30);
-    let mut clauses = vec![vec![literal(nets, r)]];
-    for v in 1..nets as i64 {
-        let sign = if r.once_in(6) { -1 } else { 1 };
-        clauses.push(vec![-v, sign * (v + 1)]);
-        if r.once_in(3) {
-            clauses.push(vec![v, -sign * (v + 1)]);
-        }
-    }
-    List { nets, clauses }
-}
-
-/// Two copies of one circuit on common inputs, equal or differing in one gate.
-fn miter(r: &mut Random) -> List {
-    let inputs = r.between(3, 5);
-    let gates = r.between(1, 8);
-    let differing = if r.once_in(2) { r.below(gates) } else { gates };
-    let mut clauses = Clauses::new();
-    let mut copies: [Vec<i64>; 2] = [(1..=inputs as i64).collect(), (1..=inputs as i64).collect()];
-    let mut next = inputs as i64 + 1;
-    for g in 0..gates {
-        let kind = r.below(3);
-        let sources: Vec<(usize, bool)> = (0..3).map(|_| (r.below(copies[0].len()), r.once_in(2))).collect();
-        for (copy, nets) in copies.iter_mut().enumerate() {
-            let pin = |(i, minus): (usize, bool)| if minus { -nets[i] } else { nets[i] };
-            let mut p: Vec<i64> = sources.iter().map(|&s| pin(s)).collect();
-            if copy == 1 && g == differing {
-                p[0] = -p[0];
-            }
-            clauses.extend(match kind {
-                0 => and_clauses(next, &p[..2]),
-                1 => xor_clauses(&[next, p[0], p[1]]),
-                _ => ite_clauses(next, p[0], p[1], p[2]),
-            });
-            nets.push(next);
-            next += 1;
-        }
-    }
-    let (a, b) = (*copies[0].last().unwrap(), *copies[1].last().unwrap());
-    clauses.extend(xor_clauses(&[-next, a, b]));
-    if r.once_in(2) {
-        clauses.push(vec![next]);
-    }
-    List { nets: next as usize, clauses }
-}
-
-fn units(r: &mut Random) -> List {
-    let mut list = random_gates(r);
-    for _ in 0..r.between(1, 4) {
-        list.clauses.push(vec![literal(list.nets, r)]);
-    }
-    list
-}
-
-/// ANDs of many inputs.
-fn wide(r: &mut Random) -> List {
-    let nets = r.between(8, 40);
-    let mut clauses = Clauses::new();
-    for _ in 0..r.between(1, 4) {
-        let count = r.between(3, nets.min(20));
-        let p = pins(nets, count, r);
-        clauses.extend(and_clauses(p[0], &p[1..]));
-    }
-    for _ in 0..r.below(6) {
-        let p = pins(nets, 2, r);
-        clauses.push(vec![p[0], p[1]]);
-        clauses.push(vec![-p[0], -p[1]]);
-    }
-    List { nets, clauses }
-}
-
-/// Lists at and just past the limits, that a naive reference still closes.
-fn limits(r: &mut Random) -> List {
-    match r.below(4) {
-        0 => List { nets: 1_023 + r.below(3), clauses: vec![vec![1_023 + r.below(3) as i64]] },
-        1 => List { nets: 3, clauses: vec![vec![1, 2, -3]; 4_095 + r.below(3)] },
-        2 => List { nets: 1, clauses: vec![vec![1; 16_382 + r.below(3)]] },
-        _ => {
-            let nets = 1_024;
-            let clauses = (1..nets as i64).map(|v| vec![-v, v + 1]).collect();
-            List { nets, clauses }
-        }
-    }
-}
-
-/// Clauses out of order, repeated, doubled literals, some missing.
 fn disturb(list: &mut List, r: &mut Random) {
     if r.once_in(2) {
         r.shuffle(&mut list.clauses);
@@ -251,62 +70,298 @@ fn disturb(list: &mut List, r: &mut Random) {
     }
 }
 
-/// The list's DIMACS text, plain.
-pub fn text_of(list: &List) -> Vec<u8> {
-    let mut text = format!("p cnf {} {}\n", list.nets, list.clauses.len());
-    for clause in &list.clauses {
-        for l in clause {
-            text.push_str(&format!("{l} "));
-        }
-        text.push_str("0\n");
-    }
-    text.into_bytes()
+// Gates as clauses
+
+pub fn and_clauses(l: i64, inputs: &[i64]) -> Clauses {
+    let mut clauses: Clauses = inputs.iter().map(|&i| vec![-l, i]).collect();
+    clauses.push(std::iter::once(l).chain(inputs.iter().map(|i| -i)).collect());
+    clauses
 }
 
-/// The same list with other blanks, line ends and comments.
-pub fn dressed(list: &List, r: &mut Random) -> Vec<u8> {
-    let mut text = Vec::new();
+/// All clauses over the literals that say that their sum is odd.
+pub fn xor_clauses(literals: &[i64]) -> Clauses {
+    (0u32..1 << literals.len())
+        .filter(|signs| signs.count_ones() % 2 == 0)
+        .map(|signs| literals.iter().enumerate().map(|(i, &l)| if signs >> i & 1 == 1 { -l } else { l }).collect())
+        .collect()
+}
+
+pub fn ite_clauses(l: i64, c: i64, t: i64, e: i64) -> Clauses {
+    vec![vec![-c, -l, t], vec![-c, l, -t], vec![c, -l, e], vec![c, l, -e]]
+}
+
+pub fn equal_clauses(a: i64, b: i64) -> Clauses {
+    vec![vec![a, -b], vec![-a, b]]
+}
+
+// Pins
+
+fn literal(nets: usize, r: &mut Random) -> i64 {
+    let v = r.between(1, nets) as i64;
+    signed(v, r)
+}
+
+pub fn signed(v: i64, r: &mut Random) -> i64 {
     if r.once_in(2) {
-        text.extend_from_slice(b"c p cnf 9 9\n \t\r\n");
+        v
+    } else {
+        -v
     }
-    let gap: &[u8] = if r.once_in(2) { b" \t" } else { b" " };
-    let end: &[u8] = if r.once_in(2) { b"\r\n" } else { b"\n" };
-    text.extend_from_slice(b"p");
-    for word in ["cnf".to_string(), list.nets.to_string(), list.clauses.len().to_string()] {
-        text.extend_from_slice(gap);
-        text.extend_from_slice(word.as_bytes());
+}
+
+/// Different nets with random signs.
+pub fn pins(nets: usize, count: usize, r: &mut Random) -> Vec<i64> {
+    let mut all: Vec<i64> = (1..=nets as i64).collect();
+    r.shuffle(&mut all);
+    all.truncate(count);
+    all.into_iter().map(|v| signed(v, r)).collect()
+}
+
+// The kinds
+
+fn random_clauses(r: &mut Random) -> List {
+    let mut list = List::over(r.between(0, 7));
+    for _ in 0..r.between(0, 24) {
+        let length = if list.nets == 0 || r.once_in(40) { 0 } else { r.between(1, 4) };
+        list.clauses.push((0..length).map(|_| literal(list.nets, r)).collect());
     }
-    text.extend_from_slice(end);
-    for clause in &list.clauses {
-        for l in clause.iter().copied().chain(std::iter::once(0)) {
-            text.extend_from_slice(l.to_string().as_bytes());
-            text.extend_from_slice(match r.below(8) {
-                0 => b"\n",
-                1 => b"\r\n\t",
-                2 => b"\nc 1 2 0 \xff\n",
-                _ => gap,
+    list
+}
+
+fn random_gate(nets: usize, r: &mut Random) -> Clauses {
+    let count = r.between(3, 5.min(nets));
+    let p = pins(nets, count.max(4), r);
+    match r.below(3) {
+        0 => and_clauses(p[0], &p[1..count]),
+        1 => xor_clauses(&p[..count]),
+        _ => ite_clauses(p[0], p[1], p[2], p[3]),
+    }
+}
+
+fn random_gates(r: &mut Random) -> List {
+    let mut list = List::over(r.between(4, 9));
+    for _ in 0..r.between(1, 6) {
+        list.clauses.extend(random_gate(list.nets, r));
+    }
+    for _ in 0..r.below(4) {
+        list.clauses.push((0..r.between(1, 2)).map(|_| literal(list.nets, r)).collect());
+    }
+    list
+}
+
+/// Gates that exclude each other: both sums of an XOR, a multiplexer with its data pins inverted, opposite units.
+fn contradictory(r: &mut Random) -> List {
+    let mut list = random_gates(r);
+    let p = pins(list.nets, 4, r);
+    list.clauses.extend(match r.below(4) {
+        0 => [xor_clauses(&p[..3]), xor_clauses(&[-p[0], p[1], p[2]])].concat(),
+        1 => [ite_clauses(p[0], p[1], p[2], p[3]), ite_clauses(p[0], p[1], -p[2], -p[3])].concat(),
+        2 => [and_clauses(p[0], &p[1..3]), and_clauses(-p[0], &p[1..3])].concat(),
+        _ => vec![vec![p[0]], vec![-p[0], p[1]], vec![-p[1], -p[0], p[2]], vec![-p[2], -p[1]]],
+    });
+    list
+}
+
+/// Gates of which one clause has lost a literal, won one, changed a sign or become one that is ignored.
+fn near_gates(r: &mut Random) -> List {
+    let mut list = random_gates(r);
+    for _ in 0..r.between(1, 3) {
+        let i = r.below(list.clauses.len());
+        let extra = literal(list.nets, r);
+        let clause = &mut list.clauses[i];
+        let at = r.below(clause.len().max(1));
+        match r.below(4) {
+            0 => clause.push(extra),
+            1 if !clause.is_empty() => drop(clause.remove(at)),
+            2 if !clause.is_empty() => clause[at] = -clause[at],
+            3 if !clause.is_empty() => clause.push(-clause[at]),
+            _ => {}
+        }
+    }
+    list
+}
+
+fn random_xors(r: &mut Random) -> List {
+    let mut list = List::over(r.between(5, 9));
+    for _ in 0..r.between(1, 5) {
+        let count = r.between(3, 5);
+        list.clauses.extend(xor_clauses(&pins(list.nets, count, r)));
+    }
+    for _ in 0..r.below(3) {
+        let p = pins(list.nets, 2, r);
+        list.clauses.extend(equal_clauses(p[0], p[1]));
+    }
+    if r.once_in(3) {
+        list.clauses.push(vec![literal(list.nets, r)]);
+    }
+    list
+}
+
+/// Multiplexers that share selects, outputs and data nets; data pins may fall on one net.
+fn multiplexers(r: &mut Random) -> List {
+    let mut list = List::over(r.between(4, 8));
+    let selects = pins(list.nets, r.between(1, 2), r);
+    let outputs = pins(list.nets, r.between(1, 3), r);
+    for _ in 0..r.between(1, 6) {
+        let (l, c) = (r.pick(&outputs), r.pick(&selects));
+        let (t, e) = (literal(list.nets, r), literal(list.nets, r));
+        list.clauses.extend(ite_clauses(l, c, t, e));
+    }
+    if r.once_in(3) {
+        list.clauses.push(vec![r.pick(&selects)]);
+    }
+    if r.once_in(3) {
+        let p = pins(list.nets, 2, r);
+        list.clauses.extend(equal_clauses(p[0], p[1]));
+    }
+    list
+}
+
+/// ANDs over one small set of inputs, some of them true, some equal.
+fn ands(r: &mut Random) -> List {
+    let inputs = r.between(3, 6);
+    let mut list = List::over(inputs);
+    for _ in 0..r.between(2, 5) {
+        let l = list.fresh();
+        let count = r.between(2, inputs.min(4));
+        list.clauses.extend(and_clauses(signed(l, r), &pins(inputs, count, r)));
+    }
+    for _ in 0..r.below(3) {
+        list.clauses.push(vec![literal(inputs, r)]);
+    }
+    for _ in 0..r.below(3) {
+        let p = pins(inputs, 2, r);
+        list.clauses.extend(equal_clauses(p[0], p[1]));
+    }
+    list
+}
+
+/// A new net that is joined to x, in this round or in a later one; t is a net that is true.
+fn alias(list: &mut List, x: i64, t: i64, r: &mut Random) -> i64 {
+    let a = list.fresh();
+    let a = signed(a, r);
+    let other = list.fresh();
+    list.clauses.extend(match r.below(4) {
+        0 => equal_clauses(a, x),
+        1 => and_clauses(a, &[x, t]),
+        2 => ite_clauses(a, t, x, other),
+        _ => xor_clauses(&[a, x, t]),
+    });
+    a
+}
+
+/// Gates written twice, the second time over nets that are joined to the first ones only after some rounds.
+fn aliases(r: &mut Random) -> List {
+    let mut list = List::over(5);
+    let t = signed(1, r);
+    list.clauses.push(vec![t]);
+    let mut names: Vec<Vec<i64>> = (2..=5).map(|v| vec![v]).collect();
+    for _ in 0..r.between(1, 5) {
+        let (base, at) = (r.below(4), r.below(8));
+        let from = names[base][at % names[base].len()];
+        let name = alias(&mut list, from, t, r);
+        names[base].push(name);
+    }
+    for _ in 0..r.between(1, 2) {
+        let kind = r.below(3);
+        let mut bases = [0, 1, 2, 3];
+        r.shuffle(&mut bases);
+        let signs: Vec<i64> = (0..4).map(|_| signed(1, r)).collect();
+        for _ in 0..2 {
+            let output = list.fresh();
+            let mut p: Vec<i64> = (0..3).map(|i| signs[i] * r.pick(&names[bases[i]])).collect();
+            if kind < 2 && r.once_in(2) {
+                p.push(t);
+            }
+            list.clauses.extend(match kind {
+                0 => and_clauses(output, &p),
+                1 => xor_clauses(&[&[output], &p[..]].concat()),
+                _ => ite_clauses(output, p[0], p[1], p[2]),
             });
         }
     }
-    if r.once_in(3) {
-        text.extend_from_slice(b"\nc the end");
-    }
-    text
+    list
 }
 
-/// A text with a few bytes changed, removed or put in.
-pub fn damaged(mut text: Vec<u8>, r: &mut Random) -> Vec<u8> {
-    for _ in 0..r.between(1, 3) {
-        let byte = r.pick(b"0123456789- \t\r\npcnf\0\xa0+x");
-        let at = r.below(text.len() + 1);
-        match r.below(3) {
-            0 => text.insert(at, byte),
-            1 if at < text.len() => text[at] = byte,
-            2 if at < text.len() => {
-                text.remove(at);
-            }
-            _ => text.truncate(at),
+fn chains(r: &mut Random) -> List {
+    let nets = r.between(1, 30);
+    let mut list = List { nets, clauses: vec![vec![literal(nets, r)]] };
+    for v in 1..nets as i64 {
+        let next = if r.once_in(6) { -v - 1 } else { v + 1 };
+        list.clauses.push(vec![-v, next]);
+        if r.once_in(3) {
+            list.clauses.push(vec![v, -next]);
         }
     }
-    text
+    list
+}
+
+/// A contradiction in round V + 1: each round joins one net or group, and the last one joins nets a and b, which were
+/// joined in the first round, to F.
+pub fn longest(nets: usize, r: &mut Random) -> List {
+    let p = pins(nets, nets, r);
+    let (a, b, c) = (p[0], p[1], p[2]);
+    let mut clauses = [equal_clauses(a, b), and_clauses(c, &[a, -b]), vec![vec![a, b, c], vec![c, p[3]]]].concat();
+    clauses.extend(p[3..].windows(2).map(|pair| vec![-pair[0], pair[1]]));
+    clauses.push(vec![-p[nets - 1], -a]);
+    List { nets, clauses }
+}
+
+fn small_miter(r: &mut Random) -> List {
+    let inputs = r.between(3, 5);
+    let gates = r.between(1, 8);
+    miter(inputs, gates, r)
+}
+
+/// Two copies of one circuit on common inputs, equal or differing in one gate.
+pub fn miter(inputs: usize, gates: usize, r: &mut Random) -> List {
+    let mut list = List::over(inputs);
+    let differing = if r.once_in(2) { r.below(gates) } else { gates };
+    let mut copies: [Vec<i64>; 2] = [(1..=inputs as i64).collect(), (1..=inputs as i64).collect()];
+    for g in 0..gates {
+        let kind = r.below(3);
+        let sources: Vec<(usize, i64)> = (0..3).map(|_| (r.below(copies[0].len()), signed(1, r))).collect();
+        for (copy, nets) in copies.iter_mut().enumerate() {
+            let mut p: Vec<i64> = sources.iter().map(|&(i, sign)| sign * nets[i]).collect();
+            if copy == 1 && g == differing {
+                p[0] = -p[0];
+            }
+            let output = list.fresh();
+            list.clauses.extend(match kind {
+                0 => and_clauses(output, &p[..2]),
+                1 => xor_clauses(&[output, p[0], p[1]]),
+                _ => ite_clauses(output, p[0], p[1], p[2]),
+            });
+            nets.push(output);
+        }
+    }
+    let differ = list.fresh();
+    list.clauses.extend(xor_clauses(&[-differ, copies[0][inputs + gates - 1], copies[1][inputs + gates - 1]]));
+    if r.once_in(2) {
+        list.clauses.push(vec![differ]);
+    }
+    list
+}
+
+fn units(r: &mut Random) -> List {
+    let mut list = random_gates(r);
+    for _ in 0..r.between(1, 4) {
+        list.clauses.push(vec![literal(list.nets, r)]);
+    }
+    list
+}
+
+/// ANDs of many inputs.
+fn wide(r: &mut Random) -> List {
+    let mut list = List::over(r.between(8, 40));
+    for _ in 0..r.between(1, 4) {
+        let count = r.between(3, list.nets.min(20));
+        let p = pins(list.nets, count, r);
+        list.clauses.extend(and_clauses(p[0], &p[1..]));
+    }
+    for _ in 0..r.below(6) {
+        let p = pins(list.nets, 2, r);
+        list.clauses.extend(equal_clauses(p[0], p[1]));
+    }
+    list
 }

@@ -3,6 +3,9 @@
 
 use std::collections::{BTreeMap, BTreeSet, HashMap, HashSet};
 
+/// Entries that the program lends for reading: no text of 65,536 bytes has more numbers.
+const PROGRAM_ROW: usize = 32_763;
+
 /// A literal: net v is v, its inverse -v. The constants are T and its inverse F.
 pub type Literal = i64;
 pub const T: Literal = i64::MAX;
@@ -59,10 +62,7 @@ fn header(line: &[u8]) -> Option<(u64, u64)> {
     if line[0] != b'p' {
         return None;
     }
-    let words: Vec<&[u8]> = line
-        .split(|&b| b == b' ' || b == b'\t')
-        .filter(|w| !w.is_empty())
-        .collect();
+    let words: Vec<&[u8]> = line.split(|&b| b == b' ' || b == b'\t').filter(|w| !w.is_empty()).collect();
     if words.len() != 4 || words[0] != b"p" || words[1] != b"cnf" {
         return None;
     }
@@ -99,8 +99,7 @@ pub fn read(text: &[u8], room: usize) -> Result<ClauseList, Refusal> {
         return refuse(4, 0);
     }
     let list = ClauseList { nets, clauses, row };
-    test_sizes(&list)?;
-    test_entries(&list)?;
+    test_list(&list)?;
     Ok(list)
 }
 
@@ -119,6 +118,31 @@ fn read_words(line: &[u8], start: usize, row: &mut Vec<i64>) -> Result<(), Refus
         at += length;
     }
     Ok(())
+}
+
+// Turned away at the desk
+
+/// How much room the caller lends to closing and to the sheet.
+#[derive(Clone, Copy, Debug)]
+pub struct Rows {
+    pub leads: usize,
+    pub work: usize,
+}
+
+fn test_list(list: &ClauseList) -> Result<(), Refusal> {
+    test_sizes(list)?;
+    test_entries(list)
+}
+
+fn test_closing(list: &ClauseList, rows: Rows) -> Result<(), Refusal> {
+    test_sizes(list)?;
+    if (rows.leads as u64) < list.nets {
+        return refuse(8, 0);
+    }
+    if rows.work < 16_384 {
+        return refuse(9, 0);
+    }
+    test_entries(list)
 }
 
 fn test_sizes(list: &ClauseList) -> Result<(), Refusal> {
@@ -149,8 +173,7 @@ fn test_entries(list: &ClauseList) -> Result<(), Refusal> {
 
 /// The DIMACS text of a list, into a buffer of the given length.
 pub fn print(list: &ClauseList, buffer: usize) -> Result<String, Refusal> {
-    test_sizes(list)?;
-    test_entries(list)?;
+    test_list(list)?;
     let mut text = format!("p cnf {} {}\n", list.nets, list.clauses);
     for &x in &list.row {
         if x == 0 {
@@ -249,13 +272,11 @@ fn find_xors(clauses: &BTreeSet<Clause>, present: &HashSet<Vec<Literal>>) -> Vec
     let mut xors = Vec::new();
     for nets in net_sets {
         for odd in [true, false] {
-            let all = (0u32..1 << nets.len())
-                .filter(|signs| (signs.count_ones() % 2 == 0) == odd)
-                .all(|signs| {
-                    let clause: Vec<Literal> =
-                        nets.iter().enumerate().map(|(i, &n)| if signs >> i & 1 == 1 { -n } else { n }).collect();
-                    is_present(present, &clause)
-                });
+            let all = (0u32..1 << nets.len()).filter(|signs| (signs.count_ones() % 2 == 0) == odd).all(|signs| {
+                let clause: Vec<Literal> =
+                    nets.iter().enumerate().map(|(i, &n)| if signs >> i & 1 == 1 { -n } else { n }).collect();
+                is_present(present, &clause)
+            });
             if all {
                 xors.push(Xor { nets: nets.clone(), odd });
             }
@@ -265,7 +286,10 @@ fn find_xors(clauses: &BTreeSet<Clause>, present: &HashSet<Vec<Literal>>) -> Vec
 }
 
 /// For a select literal c and a plain output l: every t with (-c, -l, t) and (-c, l, -t) present.
-fn sides(clauses: &BTreeSet<Clause>, present: &HashSet<Vec<Literal>>) -> BTreeMap<(Literal, Literal), BTreeSet<Literal>> {
+fn sides(
+    clauses: &BTreeSet<Clause>,
+    present: &HashSet<Vec<Literal>>,
+) -> BTreeMap<(Literal, Literal), BTreeSet<Literal>> {
     let mut sides: BTreeMap<(Literal, Literal), BTreeSet<Literal>> = BTreeMap::new();
     for clause in clauses.iter().filter(|c| c.len() == 3) {
         for &x in clause {
@@ -349,25 +373,19 @@ fn join(grouping: Grouping, a: Literal, b: Literal) -> Grouping {
 /// The parity to which a bag of literals cancels: true if the literals sum to odd.
 fn cancels(leads: &[Literal], bag: &[Literal]) -> Option<bool> {
     let mut odd = false;
-    let mut left: BTreeSet<Literal> = BTreeSet::new();
+    let mut left: Vec<Literal> = Vec::new();
     for &x in bag {
         let l = lead(leads, x);
-        if l == T {
-            odd = !odd;
-        } else if l != F {
-            if l < 0 {
-                odd = !odd;
-            }
-            if !left.remove(&l.abs()) {
-                left.insert(l.abs());
-            }
+        odd ^= l == T || (l < 0 && l != F);
+        if l == T || l == F {
+            continue;
+        }
+        match left.iter().position(|&n| n == l.abs()) {
+            Some(i) => drop(left.swap_remove(i)),
+            None => left.push(l.abs()),
         }
     }
-    if left.is_empty() {
-        Some(odd)
-    } else {
-        None
-    }
+    left.is_empty().then_some(odd)
 }
 
 fn without(nets: &[Literal], skip: &[usize]) -> Vec<Literal> {
@@ -413,7 +431,6 @@ fn by_clauses(gates: &Gates, leads: &[Literal], pairs: &mut Vec<(Literal, Litera
 
 /// Rules 3 and 4.
 fn by_ands(gates: &Gates, leads: &[Literal], pairs: &mut Vec<(Literal, Literal)>) {
-    let mut by_inputs: HashMap<BTreeSet<Literal>, Literal> = HashMap::new();
     for gate in &gates.ands {
         let inputs: BTreeSet<Literal> = gate.inputs.iter().map(|&r| lead(leads, r)).collect();
         if inputs.contains(&F) || inputs.iter().any(|x| inputs.contains(&-x)) {
@@ -425,11 +442,21 @@ fn by_ands(gates: &Gates, leads: &[Literal], pairs: &mut Vec<(Literal, Literal)>
                 pairs.push((gate.output, r));
             }
         }
-        let key: BTreeSet<Literal> = inputs.into_iter().filter(|&x| x != T).collect();
-        match by_inputs.get(&key) {
-            Some(&other) => pairs.push((gate.output, other)),
-            None => {
-                by_inputs.insert(key, gate.output);
+    }
+    by_and_pairs(gates, leads, pairs);
+}
+
+/// Rule 4: of each AND the different leads of its inputs other than T must be those of the other.
+fn by_and_pairs(gates: &Gates, leads: &[Literal], pairs: &mut Vec<(Literal, Literal)>) {
+    let inputs_of = |gate: &And| -> Vec<Literal> {
+        let inputs: BTreeSet<Literal> = gate.inputs.iter().map(|&r| lead(leads, r)).filter(|&x| x != T).collect();
+        inputs.into_iter().collect()
+    };
+    let inputs: Vec<Vec<Literal>> = gates.ands.iter().map(inputs_of).collect();
+    for (i, g) in gates.ands.iter().enumerate() {
+        for (j, h) in gates.ands.iter().enumerate().skip(i + 1) {
+            if inputs[i] == inputs[j] {
+                pairs.push((g.output, h.output));
             }
         }
     }
@@ -448,23 +475,27 @@ fn by_xors(gates: &Gates, leads: &[Literal], pairs: &mut Vec<(Literal, Literal)>
                 }
             }
         }
-        for h in &gates.xors[i..] {
-            for k in 0..g.nets.len() {
-                for m in 0..h.nets.len() {
-                    let mut bag = without(&g.nets, &[k]);
-                    bag.extend(without(&h.nets, &[m]));
-                    if let Some(p) = cancels(leads, &bag) {
-                        pairs.push((g.nets[k], turned((g.odd != h.odd) != p, h.nets[m])));
-                    }
-                }
+        for h in &gates.xors[i + 1..] {
+            by_xor_pair(g, h, leads, pairs);
+        }
+    }
+}
+
+/// Rule 6.
+fn by_xor_pair(g: &Xor, h: &Xor, leads: &[Literal], pairs: &mut Vec<(Literal, Literal)>) {
+    for k in 0..g.nets.len() {
+        for m in 0..h.nets.len() {
+            let mut bag = without(&g.nets, &[k]);
+            bag.extend(without(&h.nets, &[m]));
+            if let Some(p) = cancels(leads, &bag) {
+                pairs.push((g.nets[k], turned((g.odd != h.odd) != p, h.nets[m])));
             }
         }
     }
 }
 
-/// Rules 7 and 8.
+/// Rule 7.
 fn by_ites(gates: &Gates, leads: &[Literal], pairs: &mut Vec<(Literal, Literal)>) {
-    let mut by_pins: HashMap<(Literal, Literal, Literal), Literal> = HashMap::new();
     for g in &gates.ites {
         let c = lead(leads, g.select);
         if c == T {
@@ -476,17 +507,21 @@ fn by_ites(gates: &Gates, leads: &[Literal], pairs: &mut Vec<(Literal, Literal)>
         if lead(leads, g.on) == lead(leads, g.off) {
             pairs.push((g.output, g.on));
         }
-        for crossed in [false, true] {
+    }
+    by_ite_pairs(gates, leads, pairs);
+}
+
+/// Rule 8: every gate in its four writings, those with the same leads of c, t and e together. Going through all
+/// pairs would not end: a list can have over a million ITEs.
+fn by_ite_pairs(gates: &Gates, leads: &[Literal], pairs: &mut Vec<(Literal, Literal)>) {
+    let mut by_pins: HashMap<(Literal, Literal, Literal), Literal> = HashMap::new();
+    for g in &gates.ites {
+        for (c, t, e) in [(g.select, g.on, g.off), (-g.select, g.off, g.on)] {
             for inverted in [false, true] {
-                let (c, t, e) = if crossed { (-g.select, g.off, g.on) } else { (g.select, g.on, g.off) };
-                let key = (lead(leads, c), lead(leads, turned(inverted, t)), lead(leads, turned(inverted, e)));
+                let pins = (lead(leads, c), lead(leads, turned(inverted, t)), lead(leads, turned(inverted, e)));
                 let output = turned(inverted, g.output);
-                match by_pins.get(&key) {
-                    Some(&other) => pairs.push((output, other)),
-                    None => {
-                        by_pins.insert(key, output);
-                    }
-                }
+                let first = *by_pins.entry(pins).or_insert(output);
+                pairs.push((output, first));
             }
         }
     }
@@ -513,8 +548,32 @@ pub struct Answer {
     pub leads: Vec<Literal>,
 }
 
-/// Closes an accepted list under a round limit.
-pub fn close(list: &ClauseList, limit: u64) -> Answer {
+impl Answer {
+    /// The first V codes of the lead row.
+    pub fn codes(&self, nets: u64) -> Vec<u32> {
+        if self.verdict == Verdict::Contradiction {
+            return vec![u32::MAX; nets as usize];
+        }
+        self.leads.iter().map(|&x| code(x)).collect()
+    }
+}
+
+fn code(x: Literal) -> u32 {
+    match x {
+        F => 0,
+        T => 1,
+        _ => 2 * x.unsigned_abs() as u32 + u32::from(x < 0),
+    }
+}
+
+/// Closing with the rows that a caller lends. Refusal 14 is never met: no list makes more than V + 1 rounds.
+pub fn close(list: &ClauseList, limit: u64, rows: Rows) -> Result<Answer, Refusal> {
+    test_closing(list, rows)?;
+    Ok(closed(list, limit))
+}
+
+/// The answer for an accepted list.
+fn closed(list: &ClauseList, limit: u64) -> Answer {
     let gates = find_gates(&list.row);
     let mut leads: Vec<Literal> = (0..=list.nets as Literal).collect();
     let mut rounds = 0;
@@ -559,8 +618,17 @@ fn lead_text(x: Literal) -> String {
     }
 }
 
+/// The sheet with the rows and the text buffer that a caller lends.
+pub fn sheet(list: &ClauseList, limit: u64, rows: Rows, buffer: usize) -> Result<String, Refusal> {
+    test_closing(list, rows)?;
+    if buffer < 16_384 {
+        return refuse(13, 0);
+    }
+    Ok(sheet_text(list.nets, &closed(list, limit)))
+}
+
 /// The sheet of an answer for a list of the given number of nets.
-pub fn sheet(nets: u64, a: &Answer) -> String {
+fn sheet_text(nets: u64, a: &Answer) -> String {
     let verdict = match a.verdict {
         Verdict::Contradiction => "contradiction",
         Verdict::Settled => "settled",
@@ -577,10 +645,14 @@ pub fn sheet(nets: u64, a: &Answer) -> String {
     text
 }
 
+pub fn refusal_text(r: &Refusal) -> String {
+    format!("refusal,place\n{},{}\n", r.number, r.place)
+}
+
 /// What the program prints for a text.
 pub fn answer_text(text: &[u8]) -> String {
-    match read(text, 32_763) {
-        Ok(list) => sheet(list.nets, &close(&list, list.nets + 1)),
-        Err(r) => format!("refusal,place\n{},{}\n", r.number, r.place),
+    match read(text, PROGRAM_ROW) {
+        Ok(list) => sheet_text(list.nets, &closed(&list, list.nets + 1)),
+        Err(r) => refusal_text(&r),
     }
 }

@@ -1,0 +1,64 @@
+//! Makes a failing list or text smaller as long as it still fails.
+
+use crate::lists::List;
+
+/// Tries are bounded, since each may run the program.
+const MOST_TRIES: usize = 1_500;
+
+/// Drops stretches of items, long ones first, as long as what is left fails.
+fn fewer<A: Clone>(items: &[A], tries: &mut usize, fails: &mut dyn FnMut(&[A]) -> bool) -> Vec<A> {
+    let mut small = items.to_vec();
+    let mut stretch = small.len();
+    while stretch > 0 {
+        let mut at = 0;
+        while at < small.len() && *tries < MOST_TRIES {
+            let end = small.len().min(at + stretch);
+            let rest = [&small[..at], &small[end..]].concat();
+            *tries += 1;
+            if fails(&rest) {
+                small = rest;
+            } else {
+                at = end;
+            }
+        }
+        stretch /= 2;
+    }
+    small
+}
+
+/// A list with fewer clauses, literals and nets.
+pub fn list(failing: &List, fails: &dyn Fn(&List) -> bool) -> List {
+    let mut tries = 0;
+    let nets = failing.nets;
+    let mut clauses = fewer(&failing.clauses, &mut tries, &mut |c| fails(&List { nets, clauses: c.to_vec() }));
+    for i in 0..clauses.len() {
+        let others = clauses.clone();
+        clauses[i] = fewer(&clauses[i], &mut tries, &mut |literals| {
+            let mut clauses = others.clone();
+            clauses[i] = literals.to_vec();
+            fails(&List { nets, clauses })
+        });
+    }
+    let small = List { nets, clauses };
+    let numbered = renumbered(&small);
+    if fails(&numbered) {
+        numbered
+    } else {
+        small
+    }
+}
+
+/// The same list over the nets that stand in it, in their order.
+fn renumbered(list: &List) -> List {
+    let mut nets: Vec<i64> = list.clauses.concat().iter().map(|l| l.abs()).collect();
+    nets.sort_unstable();
+    nets.dedup();
+    let number = |l: &i64| l.signum() * (nets.binary_search(&l.abs()).unwrap_or(0) as i64 + 1);
+    let clauses = list.clauses.iter().map(|c| c.iter().map(number).collect()).collect();
+    List { nets: nets.len(), clauses }
+}
+
+/// A text with fewer bytes.
+pub fn text(failing: &[u8], fails: &dyn Fn(&[u8]) -> bool) -> Vec<u8> {
+    fewer(failing, &mut 0, &mut |bytes| fails(bytes))
+}
