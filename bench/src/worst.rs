@@ -1,0 +1,86 @@
+//! Lists within the limits that are as hard as was found, for one thing each. They are no pairs of designs.
+
+use crate::list::List;
+use crate::random::Random;
+
+pub fn lists() -> Vec<(&'static str, List)> {
+    vec![
+        ("ITEs of one select and output, rounds elsewhere", largest(|n| shared_ites(n, false))),
+        ("ITEs of one select and output, joined one by one", largest(|n| shared_ites(n, true))),
+        ("ANDs over 26 nets", largest(ands_over_few)),
+        ("four wide ANDs, inputs true one by one", largest(wide_ands)),
+        ("chain of units", largest(unit_chain)),
+        ("multiplexers on one select", largest(one_select)),
+        ("one net in every clause", largest(one_net)),
+    ]
+}
+
+/// The largest size whose list is within the limits.
+fn largest(list: impl Fn(usize) -> List) -> List {
+    let fits = |n: usize| list(n).fits(1);
+    let size = crate::largest(fits);
+    list(size)
+}
+
+/// The first net is true, and each makes the next one true.
+fn chain(nets: impl Iterator<Item = i32>) -> Vec<Vec<i32>> {
+    let nets: Vec<i32> = nets.collect();
+    let steps = nets.windows(2).map(|pair| vec![-pair[0], pair[1]]);
+    nets.first().map(|first| vec![*first]).into_iter().chain(steps).collect()
+}
+
+/// Net 2 = net 1 ? x : y for any two different x, y of n nets. A chain of units runs through these nets, or through half
+/// as many others.
+fn shared_ites(n: usize, through: bool) -> List {
+    let data = 3..n as i32 + 3;
+    let others = n as i32 + 3..(n + n / 2) as i32 + 3;
+    let side = |c: i32, x: i32| [vec![c, -2, x], vec![c, 2, -x]];
+    let mut clauses: Vec<_> = data.clone().flat_map(|x| [1, -1].into_iter().flat_map(move |c| side(c, x))).collect();
+    clauses.extend(chain(if through { data } else { others.clone() }));
+    List { nets: if through { n + 2 } else { others.end as usize - 1 }, clauses }
+}
+
+/// At most one of 26 nets is true; each of n clauses of twelve of them makes twelve ANDs.
+fn ands_over_few(n: usize) -> List {
+    let nets = 26;
+    let mut random = Random(1);
+    let mut clauses: Vec<Vec<i32>> = (1..nets).flat_map(|a| (a + 1..=nets).map(move |b| vec![-a, -b])).collect();
+    for _ in 0..n {
+        let mut rest: Vec<i32> = (1..=nets).collect();
+        clauses.push((0..12).map(|_| rest.swap_remove(random.below(rest.len()))).collect());
+    }
+    List { nets: nets as usize, clauses }
+}
+
+/// Four ANDs of the same n nets, which become true one after another.
+fn wide_ands(n: usize) -> List {
+    let inputs = 1..=n as i32;
+    let mut clauses = chain(inputs.clone());
+    for output in n as i32 + 1..=n as i32 + 4 {
+        clauses.extend(inputs.clone().map(|r| vec![-output, r]));
+        clauses.push(inputs.clone().map(|r| -r).chain([output]).collect());
+    }
+    List { nets: n + 4, clauses }
+}
+
+fn unit_chain(n: usize) -> List {
+    List { nets: n, clauses: chain(1..=n as i32) }
+}
+
+/// Each of n multiplexers on net 1 takes the one before it, and its like in the other half of them.
+fn one_select(n: usize) -> List {
+    let half = n as i32 / 2;
+    let mux = |l: i32, t: i32, e: i32| [vec![-1, -l, t], vec![-1, l, -t], vec![1, -l, e], vec![1, l, -e]];
+    let first = 4;
+    let stage = |start: i32, i: i32| if i == 0 { mux(start, 2, 3) } else { mux(start + i, start + i - 1, 2) };
+    let clauses =
+        [first, first + half].into_iter().flat_map(|start| (0..half).flat_map(move |i| stage(start, i))).collect();
+    List { nets: 3 + 2 * half as usize, clauses }
+}
+
+fn one_net(n: usize) -> List {
+    let mut random = Random(2);
+    let nets = 1_024;
+    let mut other = || (2 + random.below(nets - 1) as i32) * random.sign();
+    List { nets, clauses: (0..n).map(|_| vec![1, other(), other()]).collect() }
+}
