@@ -183,12 +183,11 @@ fn ratio(tool: &Tool, measured: &Measured, product: f64) -> String {
     // Less than this cannot be told from the start's own spread.
     let floor = 0.05;
     let ratio = measured.work.max(floor) / product.max(floor);
-    let digits = if ratio < 0.1 {
-        3
-    } else if ratio < 10.0 {
-        2
-    } else {
-        0
+    let digits = match ratio {
+        _ if ratio < 0.01 => 5,
+        _ if ratio < 0.1 => 3,
+        _ if ratio < 10.0 => 2,
+        _ => 0,
     };
     let over = if measured.ran.status.is_none() { "over " } else { "" };
     let equal = match tool.says_equal(&measured.ran) {
