@@ -1,15 +1,15 @@
 -- How long a sheet can be.
 -- Assumes nothing.
-use mathlib.Core.Path.{_≡_, refl, sym, _∙_, ap}
+use mathlib.Core.Path.{_≡_, refl, _∙_}
 use mathlib.Core.Logic.{_≢_}
 use mathlib.Core.Bool.{true, false}
 use mathlib.Core.List.{List, [], _∷_, _++_}
-use Prim.Native.Nat.{ℕ, zero, suc, _+_, _*_, _/_, _%_, _^_, _≤_, _<_}
+use Prim.Native.Nat.{ℕ, zero, suc, _+_, _*_, _/_, _%_, _≤_, _<_}
 use native.Mathlib.Decide.{decLt}
 use native.Mathlib.Omega.{arith}
 use borrow.Table.Steps.{cases}
 use lib.Dec.{eqb}
-use lib.ListN.{length, getD, length-append}
+use lib.ListN.{length, length-append}
 use Rattle.clauses.specs.Bytes.{lf}
 use Rattle.clauses.specs.Code.{net}
 use Rattle.clauses.specs.Number.{decimal}
@@ -18,7 +18,7 @@ use Rattle.gates.specs.Sign.{isInverse}
 use Rattle.rules.specs.declared.Verdict.{Verdict}
 use Rattle.rules.specs.declared.Verdict.the-variants.{Contradiction, Settled, Unfinished}
 use Rattle.rules.specs.Answer.{Answer}
-use Rattle.sheet.specs.Sheet.{comma, namesLine, verdictText, field, valuesLine, leadText, netLine, netLeadLine, netLines, leadLines, sheetText}
+use Rattle.sheet.specs.Sheet.{comma, namesLine, verdictText, valuesLine, leadText, netLine, netLeadLine, netLines, leadLines, sheetText}
 use Rattle.sheet.proofs.Texts.{numbers-length, values-length, sheet-length, net-length}
 
 -- a number of at most four digits

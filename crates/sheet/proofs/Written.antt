@@ -1,6 +1,6 @@
 -- What `write` answers, by its tests, by what closing hands over and by what is put into the buffer.
 -- Assumes nothing.
-use mathlib.Core.Path.{_≡_, refl, sym, _∙_, ap, subst, subst⁻¹}
+use mathlib.Core.Path.{_≡_, refl, sym, _∙_, ap, subst}
 use mathlib.Core.Logic.{_≢_}
 use mathlib.Core.List.{List, [], _∷_, _++_}
 use Prim.Native.Nat.{ℕ, zero, suc, _+_, _*_, _≤_, _<_}
@@ -8,9 +8,8 @@ use native.Mathlib.Omega.{arith}
 use borrow.Author.Tests.{lt-ltb, le-ltb}
 use lib.IntN.{ℤ}
 use lib.ListN.{length, getD, take, drop, length-append}
-use lib.Seq.{sets, sets-eq}
+use lib.Seq.{sets-eq}
 use Rattle.clauses.specs.Clause.{clausesOf}
-use Rattle.clauses.specs.Code.{net}
 use Rattle.clauses.specs.Listing.{Fits}
 use Rattle.clauses.specs.Refusal.{decide}
 use Rattle.clauses.specs.Writing.{Wrote}
