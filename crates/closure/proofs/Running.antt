@@ -2,7 +2,7 @@
 -- Assumes nothing.
 use mathlib.Core.Path.{_≡_, refl, sym, _∙_, ap, subst, subst⁻¹}
 use mathlib.Core.Logic.{_≢_, _⊎_, inl, inr}
-use mathlib.Core.Bool.{Bool, true, false, not, true≢false, _&&_}
+use mathlib.Core.Bool.{Bool, true, false, true≢false}
 use mathlib.Core.List.{List, List·Memᴰ}
 use Prim.Native.Nat.{ℕ, suc, _+_, _*_, _≤_, _<_}
 use native.Mathlib.Omega.{arith}
@@ -17,16 +17,17 @@ use Rattle.clauses.proofs.Lists.{and-both, from-low, from-length}
 use Rattle.clauses.proofs.Distinct.{from-distinct}
 use Rattle.gates.specs.Count.{netsOf}
 use Rattle.rules.specs.declared.Verdict.the-variants.{Contradiction, Settled, Unfinished}
-use Rattle.closure.specs.declared.tally.Tally.{Tally}
+use Rattle.passes.specs.declared.tally.Tally.{Tally}
 use Rattle.rules.specs.Grouping.{Closure, After}
 use Rattle.rules.specs.Ending.{Still}
 use Rattle.rules.specs.Answer.{own, noLead}
 use Rattle.rules.specs.Compute.{ended, closed}
-use Rattle.closure.specs.Making.{Making, fresh, Rules}
+use Rattle.passes.specs.Making.{Making, fresh, Rules}
 use Rattle.rules.proofs.Rounds.{Row}
 use Rattle.rules.proofs.Closing.{up-to, no-clash, settles, clashes, stops, first-lead, first-is, closed-is}
 use Rattle.rules.proofs.Groups.{is-own, own-length, own-none}
-use Rattle.closure.proofs.Making.{within-length}
+use Rattle.passes.proofs.Making.{within-length}
+use Rattle.closure.specs.Rounds.{isStill}
 use Rattle.closure.proofs.RoundsMade.{clash-after, row-after, still-after, moved-after}
 
 -- at first every net leads itself
@@ -42,19 +43,22 @@ own-first v = le-both (subst (λ (n : ℕ). n ≤ length (own v (netsOf v))) (fr
 -- a round that joins nothing, by its tally
 
 module _ (t : Tally) where
-  pub still-joins : t .clash ≡ false → eqb (t .joins) 0 ≡ (not (t .clash) && eqb (t .joins) 0)
+  pub still-joins : t .clash ≡ false → eqb (t .joins) 0 ≡ isStill t
+  unfolding isStill
   still-joins c = rw (c)
 
-  pub still-clash : t .clash ≡ true → false ≡ (not (t .clash) && eqb (t .joins) 0)
+  pub still-clash : t .clash ≡ true → false ≡ isStill t
+  unfolding isStill
   still-clash c = rw (c)
 
-  pub still-is : (not (t .clash) && eqb (t .joins) 0) ≡ true → (t .clash ≡ false) × (t .joins ≡ 0)
+  pub still-is : isStill t ≡ true → (t .clash ≡ false) × (t .joins ≡ 0)
+  unfolding isStill
   still-is h = let p = and-both _ _ h in (not-true _ (p .0), eqb-true (t .joins) 0 (p .1))
 
-  pub moved-joins : (not (t .clash) && eqb (t .joins) 0) ≡ false → t .clash ≡ false → t .joins ≢ 0
+  pub moved-joins : isStill t ≡ false → t .clash ≡ false → t .joins ≢ 0
   moved-joins h c e = true≢false (sym (eq-eqb (t .joins) 0 e) ∙ still-joins c ∙ h)
 
-  pub moved-is : (not (t .clash) && eqb (t .joins) 0) ≡ false → (t .clash ≡ true) ⊎ ((t .clash ≡ false) × (t .joins ≢ 0))
+  pub moved-is : isStill t ≡ false → (t .clash ≡ true) ⊎ ((t .clash ≡ false) × (t .joins ≢ 0))
   moved-is h = go (t .clash) refl
     where
       go : (b : Bool) → t .clash ≡ b → (t .clash ≡ true) ⊎ ((t .clash ≡ false) × (t .joins ≢ 0))

@@ -1,11 +1,3 @@
-pub mod Making
-pub mod Passing
-pub mod Sides
-pub mod Matching
-pub mod Joining
 pub mod Closing
 pub mod Passed
-pub mod Xors
-pub mod Table
-pub mod XorMatching
-pub mod Scratch
+pub mod Rounds

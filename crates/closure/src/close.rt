@@ -1,7 +1,7 @@
 // Closing a clause list.
 
 ghost use mathlib.Core.Path.{_≡_};
-ghost use Prim.Native.Nat.{_*_, _≤_};
+ghost use Prim.Native.Nat.{_≤_};
 ghost use lib.ListN.{length, take};
 ghost use Rattle.clauses.specs.Limit.{maxNets, maxEntries};
 ghost use Rattle.clauses.specs.Clause.{clausesIn};
@@ -11,12 +11,8 @@ ghost use Rattle.rules.specs.Answer.{own};
 ghost use Rattle.rules.specs.Compute.{ended, closed};
 ghost use Rattle.closure.specs.Closing.{checkList, closeRounds, closing};
 ghost use Rattle.closure.specs.Passed.{Passed, ClosedTo};
-ghost use Rattle.closure.specs.Scratch.{Scratch};
-ghost use Rattle.closure.specs.Sides.{maxSides};
-use crate::lead::first_leads;
 use crate::run::Ended;
 use crate::run::run;
-use crate::sides::list_sides;
 use clauses::checks::Check;
 use clauses::checks::check_entries;
 use clauses::checks::check_sizes;
@@ -24,6 +20,8 @@ use clauses::refusal::Refusal;
 use clauses::tally::tally_row;
 use gates::fill::fill;
 use gates::finder::find_gates;
+use passes::lead::first_leads;
+use passes::net_chains::index_row;
 use rules::Verdict;
 
 // Entries of the work row (specs/Closing.antt).
@@ -44,41 +42,58 @@ pub enum Closing {
     Refused(Refusal),
 }
 
-// Closes the list of a row of codes, from the first leads on, and leaves the last ones; the other rows are for the rounds.
+// Closes the list of a row of codes, and leaves the last leads; `next` and `older` are for the leads of other rounds.
 fn close_codes(
     codes: &[u32],
     marks: &[u8],
     limit: u32,
     leads: &mut [u32],
     next: &mut [u32],
-    keys: &mut [u64],
-    values: &mut [u32],
-    heads: &mut [u32],
-    chain: &mut [u32],
-    sides: &mut [u32],
+    older: &mut [u32],
 ) -> Ended
     requires { ⌜ Found (clausesIn (now codes)) (now codes) (now marks) ⌝ }
     requires { ⌜ Fits (length (now leads)) (clausesIn (now codes)) ⌝ }
     requires { ⌜ (length (now leads) ≤ maxNets) × (length (now codes) ≤ maxEntries) ⌝ }
-    requires { ⌜ length (now next) ≡ length (now leads) ⌝ }
-    requires { ⌜ Scratch (now keys) (now values) (now heads) (now chain) × (length (now sides) ≡ 3 * maxSides) ⌝ }
+    requires { ⌜ (length (now next) ≡ length (now leads)) × (length (now older) ≡ length (now leads)) ⌝ }
     ensures { λ r. ⌜ ended (r .verdict) (r .rounds) (now (leads .exit)) ≡ closed (length (now (leads .entry))) (clausesIn (now (codes .entry))) limit ⌝ }
     ensures { λ r. ⌜ r .groups ≡ length (own (length (now (leads .entry))) (now (leads .exit))) ⌝ }
 {
-    let n = list_sides(codes, marks, sides);
+    let mut starts = [0u32; 32768];
+    let mut places = [0u32; 1025];
+    let mut links = [0u32; 16384];
+    let mut moved = [0u8; 1025];
+    let mut touched = [0u8; 2050];
+    let mut seen = [0u8; 16384];
+    let mut part = [0u32; 16384];
+    let mut tags = [0u8; 16384];
+    let mut keys = [0u64; 16384];
+    let mut values = [0u32; 16384];
+    let mut heads = [0u32; 8192];
+    let mut chain = [0u32; 65536];
+    let mut sides = [0u32; 98304];
+    index_row(codes, &mut starts, &mut places, &mut links);
     first_leads(leads);
     first_leads(next);
     run(
         codes,
         marks,
-        &sides[..3 * n],
+        &starts,
+        &places,
+        &links,
         limit,
         leads,
         next,
-        keys,
-        values,
-        heads,
-        chain,
+        older,
+        &mut moved,
+        &mut touched,
+        &mut seen,
+        &mut part,
+        &mut tags,
+        &mut keys,
+        &mut values,
+        &mut heads,
+        &mut chain,
+        &mut sides,
     )
 }
 
@@ -91,17 +106,12 @@ fn close_first(
     v: usize,
     leads: &mut [u32],
     next: &mut [u32],
-    keys: &mut [u64],
-    values: &mut [u32],
-    heads: &mut [u32],
-    chain: &mut [u32],
-    sides: &mut [u32],
+    older: &mut [u32],
 ) -> Ended
     requires { ⌜ (n ≤ length (now codes)) × (n ≤ length (now marks)) × (n ≤ maxEntries) ⌝ }
     requires { ⌜ Found (clausesIn (take n (now codes))) (take n (now codes)) (take n (now marks)) ⌝ }
     requires { ⌜ Fits v (clausesIn (take n (now codes))) ⌝ }
-    requires { ⌜ (v ≤ maxNets) × (v ≤ length (now leads)) × (v ≤ length (now next)) ⌝ }
-    requires { ⌜ Scratch (now keys) (now values) (now heads) (now chain) × (length (now sides) ≡ 3 * maxSides) ⌝ }
+    requires { ⌜ (v ≤ maxNets) × (v ≤ length (now leads)) × (v ≤ length (now next)) × (v ≤ length (now older)) ⌝ }
     ensures { λ r. ⌜ ClosedTo v (clausesIn (take n (now (codes .entry)))) limit (now (leads .entry)) (now (leads .exit)) (r .verdict) (r .rounds) (r .groups) ⌝ }
 {
     close_codes(
@@ -110,15 +120,11 @@ fn close_first(
         limit,
         &mut leads[..v],
         &mut next[..v],
-        keys,
-        values,
-        heads,
-        chain,
-        sides,
+        &mut older[..v],
     )
 }
 
-// Finds the gates and makes the rounds, of a list that passes tests 5 to 12; test 14. The last rows are for the codes, the marks and the rounds.
+// Finds the gates and makes the rounds, of a list that passes tests 5 to 12; test 14. The last rows are for the codes, the marks and the leads of other rounds.
 fn close_in(
     v: u32,
     row: &[i32],
@@ -128,15 +134,10 @@ fn close_in(
     codes: &mut [u32],
     marks: &mut [u8],
     next: &mut [u32],
-    keys: &mut [u64],
-    values: &mut [u32],
-    heads: &mut [u32],
-    chain: &mut [u32],
-    sides: &mut [u32],
+    older: &mut [u32],
 ) -> Closing
     requires { ⌜ Passed v (now row) (now leads) (now work) ⌝ }
-    requires { ⌜ (length (now codes) ≡ maxEntries) × (length (now marks) ≡ maxEntries) × (length (now next) ≡ maxNets) ⌝ }
-    requires { ⌜ Scratch (now keys) (now values) (now heads) (now chain) × (length (now sides) ≡ 3 * maxSides) ⌝ }
+    requires { ⌜ (length (now codes) ≡ maxEntries) × (length (now marks) ≡ maxEntries) × (length (now next) ≡ maxNets) × (length (now older) ≡ maxNets) ⌝ }
     ensures { λ r. ⌜ record { result = r; leads = now (leads .exit); work = now (work .exit) } ≡ closeRounds v (now (row .entry)) limit (now (leads .entry)) (now (work .entry)) ⌝ }
 {
     let f = find_gates(row, codes, marks);
@@ -149,11 +150,7 @@ fn close_in(
         v as usize,
         leads,
         next,
-        keys,
-        values,
-        heads,
-        chain,
-        sides,
+        older,
     );
     if v + 1 < e.rounds {
         return Closing::Refused(Refusal::TooManyRounds);
@@ -178,11 +175,7 @@ fn close_rounds(v: u32, row: &[i32], limit: u32, leads: &mut [u32], work: &mut [
     let mut codes = [0u32; 16384];
     let mut marks = [0u8; 16384];
     let mut next = [0u32; 1024];
-    let mut keys = [0u64; 16384];
-    let mut values = [0u32; 16384];
-    let mut heads = [0u32; 8192];
-    let mut chain = [0u32; 65536];
-    let mut sides = [0u32; 98304];
+    let mut older = [0u32; 1024];
     close_in(
         v,
         row,
@@ -192,11 +185,7 @@ fn close_rounds(v: u32, row: &[i32], limit: u32, leads: &mut [u32], work: &mut [
         &mut codes,
         &mut marks,
         &mut next,
-        &mut keys,
-        &mut values,
-        &mut heads,
-        &mut chain,
-        &mut sides,
+        &mut older,
     )
 }
 

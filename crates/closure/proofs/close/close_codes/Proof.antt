@@ -1,100 +1,138 @@
 -- `closure::close::close_codes` meets its contract.
 -- Assumes nothing.
-use mathlib.Core.Path.{_∙_, sym, ap, subst⁻¹}
-use Prim.Native.Nat.{ℕ, _*_, _≤_}
+use mathlib.Core.Path.{refl, _∙_, sym, ap, subst⁻¹}
+use Prim.Native.Nat.{ℕ, _≤_}
 use native.Mathlib.Omega.{arith}
 use denote.Ref.{now}
-use lib.ListN.{length, take}
-use lib.Seq.{length-take-le}
 use Rattle.clauses.specs.Clause.{clausesIn}
 use Rattle.clauses.specs.Limit.{maxNets}
 use Rattle.clauses.specs.Listing.{Fits}
 use Rattle.gates.specs.Count.{netsOf}
-use Rattle.closure.specs.Sides.{maxSides}
-use Rattle.closure.proofs.SideRows.{found-sides}
+use Rattle.closure.proofs.ActiveRounds.{found-nets}
 use borrow.Author.Needs.{needs}
 use Rattle.closure.proofs.close.close_codes.Statement.{statement}
 use Rattle.closure.proofs.close.close_codes.Tie as tie
 
-list-sides-requires : tie.Need-list-sides-requires
-list-sides-requires c κs = let s = c .before .before .before .before .before .before .before .before .before .before in (s .pre .0, (s .pre .1 .1 .0 .1, s .pre .1 .1 .1 .1 .1))
+slice-aggregate-index-row : tie.Need-slice-aggregate-index-row
+slice-aggregate-index-row c = search needs
+
+slice-aggregate-index-row-2 : tie.Need-slice-aggregate-index-row-2
+slice-aggregate-index-row-2 c = search needs
+
+slice-aggregate-index-row-3 : tie.Need-slice-aggregate-index-row-3
+slice-aggregate-index-row-3 c = search needs
+
+index-row-requires : tie.Need-index-row-requires
+index-row-requires c κs =
+    let s = c .before .before .before .before .before .before .before .before .pre in
+    ((s .1 .1 .0 .1, λ q. omega (arith, found-nets (s .0) (s .1 .0) q, s .1 .1 .0 .0)), (refl, refl, s .1 .1 .0 .1))
 
 first-leads-requires : tie.Need-first-leads-requires
-first-leads-requires c κs = search needs
+first-leads-requires c κs = c .before .before .before .before .before .before .before .before .before .before .before .before .before .pre .1 .1 .0 .0
 
 first-leads-requires-2 : tie.Need-first-leads-requires-2
-first-leads-requires-2 c κs = search needs
-
-mul-run : tie.Need-mul-run
-mul-run c = omega (arith, c .before .before .before .before .before .before .before .before .before .before .list-sides .ensures .0 .0)
-
-slice-reshare-prefix-run : tie.Need-slice-reshare-prefix-run
-slice-reshare-prefix-run c = search needs
+first-leads-requires-2 c κs = omega (arith, c .before .before .before .before .before .before .before .before .before .before .before .before .before .before .before .before .before .pre .1 .1 .1 .0, c .before .before .before .before .before .before .before .before .before .before .before .before .before .before .before .before .before .pre .1 .1 .0 .0)
 
 slice-aggregate-run : tie.Need-slice-aggregate-run
-slice-aggregate-run c = sym (length-take-le (3 * c .before .before .before .before .before .before .before .before .before .before .before .list-sides .result) (c .before .before .before .before .before .before .before .before .before .before .before .list-sides .last .1 .1 .0) (omega (arith, c .before .before .before .before .before .before .before .before .before .before .before .list-sides .ensures .0 .0, c .before .before .before .before .before .before .before .before .before .before .before .list-sides .kept .1 .1 .0, c .before .before .before .before .before .before .before .before .before .before .before .before .before .before .before .before .before .before .before .before .before .before .pre .1 .1 .1 .1 .1)))
+slice-aggregate-run c = search needs
+
+slice-aggregate-run-2 : tie.Need-slice-aggregate-run-2
+slice-aggregate-run-2 c = search needs
+
+slice-aggregate-run-3 : tie.Need-slice-aggregate-run-3
+slice-aggregate-run-3 c = search needs
+
+slice-aggregate-run-4 : tie.Need-slice-aggregate-run-4
+slice-aggregate-run-4 c = search needs
+
+slice-aggregate-run-5 : tie.Need-slice-aggregate-run-5
+slice-aggregate-run-5 c = search needs
+
+slice-aggregate-run-6 : tie.Need-slice-aggregate-run-6
+slice-aggregate-run-6 c = search needs
+
+slice-aggregate-run-7 : tie.Need-slice-aggregate-run-7
+slice-aggregate-run-7 c = search needs
+
+slice-aggregate-run-8 : tie.Need-slice-aggregate-run-8
+slice-aggregate-run-8 c = search needs
+
+slice-aggregate-run-9 : tie.Need-slice-aggregate-run-9
+slice-aggregate-run-9 c = search needs
+
+slice-aggregate-run-10 : tie.Need-slice-aggregate-run-10
+slice-aggregate-run-10 c = search needs
+
+slice-aggregate-run-11 : tie.Need-slice-aggregate-run-11
+slice-aggregate-run-11 c = search needs
+
+slice-aggregate-run-12 : tie.Need-slice-aggregate-run-12
+slice-aggregate-run-12 c = search needs
+
+slice-aggregate-run-13 : tie.Need-slice-aggregate-run-13
+slice-aggregate-run-13 c = search needs
 
 run-requires : tie.Need-run-requires
 run-requires c κs =
-    let s = c .before .before .before .before .before .before .before .before .before .before .before .before .before .before .before .before .before .before .before .before .before .before .before .before .before .before .before .before in
-    let l = c .before .before .before .before .before .before .before .before .before .before .before .before .before .before .before .before .before .list-sides in
-    let room : 3 * l .result ≤ length (l .last .1 .1 .0) = omega (arith, l .ensures .0 .0, l .kept .1 .1 .0, s .pre .1 .1 .1 .1 .1) in
-    let z = found-sides (l .last .1 .1 .0) (l .result) (s .pre .0) room (l .ensures .0 .1) (l .ensures .1) in
-    let few : length (take (3 * l .result) (l .last .1 .1 .0)) ≤ 3 * maxSides = omega (arith, length-take-le (3 * l .result) (l .last .1 .1 .0) room, l .ensures .0 .0) in
-    let k = c .before .before .before .before .before .before .before .before .before .before .before .before .before .first-leads .kept .0 in
-    let e = c .before .before .before .before .before .before .before .before .before .before .before .before .before .first-leads .ensures in (
+    let s = c .before .before .before .before .before .before .before .before .before .before .before .before .before .before .before .before .before .before .before .before .before .before .before .before .before .before .before .before .before .before .before .before .before .before .before .before in
+    let k = c .before .before .before .before .before .before .before .before .before .before .before .before .before .before .before .before .before .before .before .before .before .before .first-leads .kept .0 in
+    let e = c .before .before .before .before .before .before .before .before .before .before .before .before .before .before .before .before .before .before .before .before .before .before .first-leads .ensures in (
       s .pre .0,
       (
         subst⁻¹ (λ (n : ℕ). Fits n (clausesIn (now (s .args .codes)))) k (s .pre .1 .0),
         (
           (subst⁻¹ (λ (n : ℕ). n ≤ maxNets) k (s .pre .1 .1 .0 .0), s .pre .1 .1 .0 .1),
-          ((e ∙ ap netsOf (sym k), c .before .before .before .before .before .before .before .before .before .first-leads2 .ensures ∙ ap netsOf (s .pre .1 .1 .1 .0) ∙ sym e), ((z, few), s .pre .1 .1 .1 .1 .0)),
+          (
+            (e ∙ ap netsOf (sym k), c .before .before .before .before .before .before .before .before .before .before .before .before .before .before .before .before .before .before .first-leads2 .ensures ∙ ap netsOf (s .pre .1 .1 .1 .0) ∙ sym e, s .pre .1 .1 .1 .1 ∙ sym k),
+            (
+              c .before .before .before .before .before .before .before .before .before .before .before .before .before .before .before .before .before .before .before .before .before .before .before .before .before .before .before .index-row .ensures,
+              (
+                record { moved-room = refl; touched-room = refl; seen-room = refl; part-room = refl; tag-room = refl },
+                record { key-room = refl; value-room = refl; head-room = refl; chain-room = refl; side-room = refl },
+              ),
+            ),
+          ),
         ),
       ),
     )
 
 same-length : tie.Need-same-length
-same-length c = search needs
+same-length c = c .before .before .before .before .before .before .before .before .before .before .before .before .before .before .before .before .run .kept .1 .1 .1 .1 .1 .1 .0 ∙ c .before .before .before .before .before .before .before .before .before .before .before .before .before .before .before .before .before .before .before .before .before .before .before .before .before .before .before .before .before .before .before .before .before .before .before .before .before .before .before .first-leads .kept .0
 
 same-length-2 : tie.Need-same-length-2
-same-length-2 c = search needs
+same-length-2 c = c .before .before .before .before .before .before .before .before .before .before .before .before .before .before .before .before .run .kept .1 .1 .1 .1 .1 .1 .1 .0 ∙ c .before .before .before .before .before .before .before .before .before .before .before .before .before .before .before .before .before .before .before .before .before .before .before .before .before .before .before .before .before .before .before .before .before .before .before .first-leads2 .kept .0
 
 same-length-3 : tie.Need-same-length-3
 same-length-3 c = search needs
 
-same-length-4 : tie.Need-same-length-4
-same-length-4 c = search needs
-
-same-length-5 : tie.Need-same-length-5
-same-length-5 c = search needs
-
-same-length-6 : tie.Need-same-length-6
-same-length-6 c = search needs
-
-same-length-7 : tie.Need-same-length-7
-same-length-7 c = search needs
-
 returns : tie.Need-returns
-returns c =
-    let k = c .before .before .before .before .before .before .before .before .before .before .before .before .before .before .before .before .before .before .before .before .before .before .before .before .before .before .first-leads .kept .0 in
-    rw (← k) (c .before .before .before .before .before .before .before .before .before .before .before .before .run .ensures)
+returns c = let k = c .before .before .before .before .before .before .before .before .before .before .before .before .before .before .before .before .before .before .before .before .before .before .before .before .before .before .before .before .before .before .before .before .before .before .before .before .before .before .before .first-leads .kept .0 in let e = c .before .before .before .before .before .before .before .before .before .before .before .before .before .before .before .before .run .ensures in (rw k at (e .0), rw k at (e .1))
 
 pub close-codes-spec : {M : Type 1} → statement M
 close-codes-spec =
     tie.close
     (tie.spec
-    list-sides-requires
+    slice-aggregate-index-row
+    slice-aggregate-index-row-2
+    slice-aggregate-index-row-3
+    index-row-requires
     first-leads-requires
     first-leads-requires-2
-    mul-run
-    slice-reshare-prefix-run
     slice-aggregate-run
+    slice-aggregate-run-2
+    slice-aggregate-run-3
+    slice-aggregate-run-4
+    slice-aggregate-run-5
+    slice-aggregate-run-6
+    slice-aggregate-run-7
+    slice-aggregate-run-8
+    slice-aggregate-run-9
+    slice-aggregate-run-10
+    slice-aggregate-run-11
+    slice-aggregate-run-12
+    slice-aggregate-run-13
     run-requires
     same-length
     same-length-2
     same-length-3
-    same-length-4
-    same-length-5
-    same-length-6
-    same-length-7
     returns)

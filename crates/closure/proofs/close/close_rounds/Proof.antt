@@ -17,20 +17,8 @@ slice-aggregate-close-in-3 c = search needs
 slice-aggregate-close-in-4 : tie.Need-slice-aggregate-close-in-4
 slice-aggregate-close-in-4 c = search needs
 
-slice-aggregate-close-in-5 : tie.Need-slice-aggregate-close-in-5
-slice-aggregate-close-in-5 c = search needs
-
-slice-aggregate-close-in-6 : tie.Need-slice-aggregate-close-in-6
-slice-aggregate-close-in-6 c = search needs
-
-slice-aggregate-close-in-7 : tie.Need-slice-aggregate-close-in-7
-slice-aggregate-close-in-7 c = search needs
-
-slice-aggregate-close-in-8 : tie.Need-slice-aggregate-close-in-8
-slice-aggregate-close-in-8 c = search needs
-
 close-in-requires : tie.Need-close-in-requires
-close-in-requires c κs = (c .before .before .before .before .before .before .before .before .before .before .before .before .pre, ((refl, refl, refl), (record { key-room = refl; value-room = refl; head-room = refl; chain-room = refl }, refl)))
+close-in-requires c κs = (c .before .before .before .before .before .before .before .before .pre, (refl, refl, refl, refl))
 
 same-length : tie.Need-same-length
 same-length c = search needs
@@ -49,10 +37,6 @@ close-rounds-spec =
     slice-aggregate-close-in-2
     slice-aggregate-close-in-3
     slice-aggregate-close-in-4
-    slice-aggregate-close-in-5
-    slice-aggregate-close-in-6
-    slice-aggregate-close-in-7
-    slice-aggregate-close-in-8
     close-in-requires
     same-length
     same-length-2

@@ -1,104 +1,117 @@
 -- `closure::round::round` meets its contract.
 -- Assumes nothing.
-use mathlib.Core.Path.{_∙_, subst}
-use mathlib.Core.List.{List}
-use Prim.Native.Nat.{ℕ}
+use mathlib.Core.Path.{sym, _∙_}
 use native.Mathlib.Omega.{arith}
-use denote.Ref.{now}
-use Rattle.clauses.specs.Clause.{clausesIn}
-use Rattle.closure.specs.Making.{Making, fresh}
-use Rattle.closure.specs.Xors.{LeadRow}
-use Rattle.closure.proofs.Making.{rules-gathered}
-use Rattle.closure.proofs.SideMatching.{sides-rule7, sides-rule8}
-use borrow.Author.Needs.{needs}
+use lib.Seq.{length-take-le}
+use Rattle.closure.proofs.ActiveRounds.{old-leads, row-nets, part-ready, part-making, part-joined}
 use Rattle.closure.proofs.round.round.Statement.{statement}
 use Rattle.closure.proofs.round.round.Tie as tie
 
--- the old leads are as the new ones are at first
-old-leads : (s : tie.Start) → LeadRow (now (s .args .old))
-old-leads s = record { inverse = m .inverse; again = m .again; low = m .low }
-  where
-    m : Making (clausesIn (now (s .args .codes))) (now (s .args .old)) (now (s .args .old)) (fresh (s .args .groups))
-    m =
-        subst (λ (l : List ℕ). Making (clausesIn (now (s .args .codes))) (now (s .args .old)) l (fresh (s .args .groups)))
-        (s .pre .1 .1 .1 .1 .0) (s .pre .1 .1 .1 .0)
-
-by-clauses-requires : tie.Need-by-clauses-requires
-by-clauses-requires c κs =
-    let s = c .before .before .before .before .before .before .before .before .before .before in
-    (s .pre .0, (s .pre .1 .0, (s .pre .1 .1 .0 .0, s .pre .1 .1 .1 .0)))
-
-by-and-gates-requires : tie.Need-by-and-gates-requires
-by-and-gates-requires c κs =
-    let s = c .before .before .before .before .before .before .before .before .before .before .before .before .before .before .before .before in
-    let w = s .pre .1 .1 .1 .1 .1 .1 .1 .1 in
-    (s .pre .0, (s .pre .1 .0, (s .pre .1 .1 .0, (s .pre .1 .1 .1 .1 .1 .0, ((omega (arith, w .head-room), omega (arith, w .chain-room, s .pre .1 .1 .0 .1)), c .before .before .before .before .before .by-clauses .ensures .0)))))
-
-by-xors-requires : tie.Need-by-xors-requires
-by-xors-requires c κs =
-    let s = c .before .before .before .before .before .before .before .before .before .before .before .before .before .before .before .before .before .before .before .before .before .before .before .before .before .before .before .before in
-    let w = s .pre .1 .1 .1 .1 .1 .1 .1 .1 in (
-      record { found = s .pre .0; fits = s .pre .1 .0; leads = old-leads s; nets = s .pre .1 .1 .0 .0; entries = s .pre .1 .1 .0 .1 },
+take-active-requires : tie.Need-take-active-requires
+take-active-requires c κs =
+    let s = c .before .before .before .before .before .before .before .before .before .before .before .before .before .before .before .before .before .before .before .before .before .before .before .pre in
+    let w = s .1 .1 .0 in (
+      (s .0 .found .ended, s .0 .found .size),
       (
-        c .before .before .before .before .before .before .before .before .before .before .before .by-and-gates .ensures .0,
+        s .1 .0,
         (
-          s .pre .1 .1 .1 .1 .1 .1 .0,
+          (row-nets (s .0), old-leads (s .0)),
           (
-            omega (arith, c .before .before .before .before .before .before .before .before .before .before .before .by-and-gates .kept .1 .1 .1 .1 .0, w .head-room),
-            (omega (arith, w .key-room, s .pre .1 .1 .0 .1), omega (arith, w .value-room, s .pre .1 .1 .0 .1), omega (arith, c .before .before .before .before .before .before .before .before .before .before .before .by-and-gates .kept .1 .1 .1 .1 .1 .0, w .key-room, w .chain-room)),
+            (s .0 .size, s .0 .nets),
+            (
+              (w .moved-room, omega (arith, w .touched-room)),
+              (omega (arith, w .seen-room, s .0 .entries), omega (arith, w .part-room, s .0 .entries), omega (arith, w .tag-room, s .0 .entries)),
+            ),
           ),
         ),
       ),
     )
 
-by-ites-requires : tie.Need-by-ites-requires
-by-ites-requires c κs =
-    let s = c .before .before .before .before .before .before .before .before .before .before .before .before .before .before .before .before .before .before .before .before .before .before .before .before .before .before .before .before .before .before .before .before .before .before .before .before .before .before .before .before .before .before .before in
-    let w = s .pre .1 .1 .1 .1 .1 .1 .1 .1 in
-    let z = s .pre .1 .1 .1 .1 .1 .1 .1 .0 in (
-      record { of = _; sides-of = z .0; fits = s .pre .1 .0; making = c .before .before .before .before .before .before .before .before .before .before .before .before .before .before .by-xors .ensures .0; few = s .pre .1 .1 .0 .0; low = old-leads s .low; room = z .1 },
-      ((c .before .before .before .before .before .before .before .before .before .before .before .before .before .before .by-xors .kept .1 .1 .1 .1 .1 .1 .1 .1 .0 ∙ c .before .before .before .before .before .before .before .before .before .before .before .before .before .before .before .before .before .before .before .before .before .before .before .before .before .before .by-and-gates .kept .1 .1 .1 .1 .0 ∙ w .head-room, c .before .before .before .before .before .before .before .before .before .before .before .before .before .before .by-xors .kept .1 .1 .1 .1 .1 .1 .1 .0 ∙ c .before .before .before .before .before .before .before .before .before .before .before .before .before .before .before .before .before .before .before .before .before .before .before .before .before .before .by-and-gates .kept .1 .1 .1 .1 .1 .0 ∙ w .chain-room), omega (arith, c .before .before .before .before .before .before .before .before .before .before .before .before .before .before .by-xors .kept .1 .1 .1 .1 .1 .1 .0, w .value-room)),
-    )
+slice-reshare-prefix-by-rules : tie.Need-slice-reshare-prefix-by-rules
+slice-reshare-prefix-by-rules c =
+    let a = c .before .before .before .before .before .before .before .before .before .before .take-active in
+    omega (arith, a .ensures .0, a .kept .1 .1 .1 .1 .1 .1 .1 .1 .1 .1 .0, c .before .before .before .before .before .before .before .before .before .before .before .before .before .before .before .before .before .before .before .before .before .before .before .before .before .before .before .before .before .before .before .before .before .before .pre .0 .entries, c .before .before .before .before .before .before .before .before .before .before .before .before .before .before .before .before .before .before .before .before .before .before .before .before .before .before .before .before .before .before .before .before .before .before .pre .1 .1 .0 .part-room)
+
+slice-aggregate-by-rules : tie.Need-slice-aggregate-by-rules
+slice-aggregate-by-rules c =
+    let a = c .before .before .before .before .before .before .before .before .before .before .before .take-active in
+    sym (length-take-le (a .result) (a .last .1 .1 .1 .1 .1 .1 .1 .1 .1 .1 .0) (omega (arith, a .ensures .0, a .kept .1 .1 .1 .1 .1 .1 .1 .1 .1 .1 .0, c .before .before .before .before .before .before .before .before .before .before .before .before .before .before .before .before .before .before .before .before .before .before .before .before .before .before .before .before .before .before .before .before .before .before .before .pre .0 .entries, c .before .before .before .before .before .before .before .before .before .before .before .before .before .before .before .before .before .before .before .before .before .before .before .before .before .before .before .before .before .before .before .before .before .before .before .pre .1 .1 .0 .part-room)))
+
+slice-reshare-prefix-by-rules-2 : tie.Need-slice-reshare-prefix-by-rules-2
+slice-reshare-prefix-by-rules-2 c =
+    let a = c .before .before .before .before .before .before .before .before .before .before .before .take-active in
+    omega (arith, a .ensures .0, a .kept .1 .1 .1 .1 .1 .1 .1 .1 .1 .1 .1 .0, c .before .before .before .before .before .before .before .before .before .before .before .before .before .before .before .before .before .before .before .before .before .before .before .before .before .before .before .before .before .before .before .before .before .before .before .pre .0 .entries, c .before .before .before .before .before .before .before .before .before .before .before .before .before .before .before .before .before .before .before .before .before .before .before .before .before .before .before .before .before .before .before .before .before .before .before .pre .1 .1 .0 .tag-room)
+
+slice-aggregate-by-rules-2 : tie.Need-slice-aggregate-by-rules-2
+slice-aggregate-by-rules-2 c =
+    let a = c .before .before .before .before .before .before .before .before .before .before .before .before .take-active in
+    sym (length-take-le (a .result) (a .last .1 .1 .1 .1 .1 .1 .1 .1 .1 .1 .1 .0) (omega (arith, a .ensures .0, a .kept .1 .1 .1 .1 .1 .1 .1 .1 .1 .1 .1 .0, c .before .before .before .before .before .before .before .before .before .before .before .before .before .before .before .before .before .before .before .before .before .before .before .before .before .before .before .before .before .before .before .before .before .before .before .before .pre .0 .entries, c .before .before .before .before .before .before .before .before .before .before .before .before .before .before .before .before .before .before .before .before .before .before .before .before .before .before .before .before .before .before .before .before .before .before .before .before .pre .1 .1 .0 .tag-room)))
+
+by-rules-requires : tie.Need-by-rules-requires
+by-rules-requires c κs =
+    let s = c .before .before .before .before .before .before .before .before .before .before .before .before .before .before .before .before .before .before .before .before .before .before .before .before .before .before .before .before .before .before .before .before .before .before .before .before .before .before .before .before .before .before .before .pre in
+    let a = c .before .before .before .before .before .before .before .before .before .before .before .before .before .before .before .before .before .before .before .take-active in
+    (part-ready (s .0) (a .ensures .1 .0) (omega (arith, length-take-le (a .result) (a .last .1 .1 .1 .1 .1 .1 .1 .1 .1 .1 .0) (omega (arith, a .ensures .0, a .kept .1 .1 .1 .1 .1 .1 .1 .1 .1 .1 .0, s .0 .entries, s .1 .1 .0 .part-room)), a .ensures .0, s .0 .entries)), (omega (arith, a .kept .1 .1 .1 .1 .1 .1 .1 .1 .0, s .1 .1 .0 .touched-room), s .1 .1 .1))
 
 same-length : tie.Need-same-length
-same-length c = c .before .before .before .before .before .before .before .before .by-ites .kept .1 .1 .1 .1 .1 .0 ∙ c .before .before .before .before .before .before .before .before .before .before .before .before .before .before .before .before .before .before .before .before .before .before .before .by-xors .kept .1 .1 .1 .1 .0 ∙ c .before .before .before .before .before .before .before .before .before .before .before .before .before .before .before .before .before .before .before .before .before .before .before .before .before .before .before .before .before .before .before .before .before .before .before .by-and-gates .kept .1 .1 .1 .1 .1 .1 .0 ∙ c .before .before .before .before .before .before .before .before .before .before .before .before .before .before .before .before .before .before .before .before .before .before .before .before .before .before .before .before .before .before .before .before .before .before .before .before .before .before .before .before .before .by-clauses .kept .1 .1 .1 .0
+same-length c = c .before .before .before .before .before .before .before .before .before .before .before .before .before .before .by-rules .kept .1 .1 .1 .0
 
 same-length-2 : tie.Need-same-length-2
-same-length-2 c = search needs
+same-length-2 c = c .before .before .before .before .before .before .before .before .before .before .before .before .before .before .before .before .before .before .before .before .before .before .before .before .before .before .before .before .before .before .before .before .before .before .take-active .kept .1 .1 .1 .1 .1 .1 .1 .0
 
 same-length-3 : tie.Need-same-length-3
-same-length-3 c = c .before .before .before .before .before .before .before .before .by-ites .kept .1 .1 .1 .1 .0 ∙ c .before .before .before .before .before .before .before .before .before .before .before .before .before .before .before .before .before .before .before .before .before .before .before .by-xors .kept .1 .1 .1 .1 .1 .1 .0
+same-length-3 c = c .before .before .before .before .before .before .before .before .before .before .before .before .before .before .by-rules .kept .1 .1 .1 .1 .1 .1 .1 .1 .1 .0 ∙ c .before .before .before .before .before .before .before .before .before .before .before .before .before .before .before .before .before .before .before .before .before .before .before .before .before .before .before .before .before .before .before .before .before .before .take-active .kept .1 .1 .1 .1 .1 .1 .1 .1 .0
 
 same-length-4 : tie.Need-same-length-4
-same-length-4 c = c .before .before .before .before .before .before .before .before .by-ites .kept .1 .0 ∙ c .before .before .before .before .before .before .before .before .before .before .before .before .before .before .before .before .before .before .before .before .before .before .before .by-xors .kept .1 .1 .1 .1 .1 .1 .1 .1 .0 ∙ c .before .before .before .before .before .before .before .before .before .before .before .before .before .before .before .before .before .before .before .before .before .before .before .before .before .before .before .before .before .before .before .before .before .before .before .by-and-gates .kept .1 .1 .1 .1 .0
+same-length-4 c = c .before .before .before .before .before .before .before .before .before .before .before .before .before .before .before .before .before .before .before .before .before .before .before .before .before .before .before .before .before .before .before .before .before .before .take-active .kept .1 .1 .1 .1 .1 .1 .1 .1 .1 .0
 
 same-length-5 : tie.Need-same-length-5
-same-length-5 c = c .before .before .before .before .before .before .before .before .by-ites .kept .1 .1 .0 ∙ c .before .before .before .before .before .before .before .before .before .before .before .before .before .before .before .before .before .before .before .before .before .before .before .by-xors .kept .1 .1 .1 .1 .1 .1 .1 .0 ∙ c .before .before .before .before .before .before .before .before .before .before .before .before .before .before .before .before .before .before .before .before .before .before .before .before .before .before .before .before .before .before .before .before .before .before .before .by-and-gates .kept .1 .1 .1 .1 .1 .0
+same-length-5 c = c .before .before .before .before .before .before .before .before .before .before .before .before .before .before .before .before .before .before .before .before .before .before .before .before .before .before .before .before .before .before .before .before .before .before .take-active .kept .1 .1 .1 .1 .1 .1 .1 .1 .1 .1 .0
+
+same-length-6 : tie.Need-same-length-6
+same-length-6 c = c .before .before .before .before .before .before .before .before .before .before .before .before .before .before .before .before .before .before .before .before .before .before .before .before .before .before .before .before .before .before .before .before .before .before .take-active .kept .1 .1 .1 .1 .1 .1 .1 .1 .1 .1 .1 .0
+
+same-length-7 : tie.Need-same-length-7
+same-length-7 c = c .before .before .before .before .before .before .before .before .before .before .before .before .before .before .by-rules .kept .1 .1 .1 .1 .0
+
+same-length-8 : tie.Need-same-length-8
+same-length-8 c = c .before .before .before .before .before .before .before .before .before .before .before .before .before .before .by-rules .kept .1 .1 .1 .1 .1 .0
+
+same-length-9 : tie.Need-same-length-9
+same-length-9 c = c .before .before .before .before .before .before .before .before .before .before .before .before .before .before .by-rules .kept .1 .1 .1 .1 .1 .1 .0
+
+same-length-10 : tie.Need-same-length-10
+same-length-10 c = c .before .before .before .before .before .before .before .before .before .before .before .before .before .before .by-rules .kept .1 .1 .1 .1 .1 .1 .1 .0
+
+same-length-11 : tie.Need-same-length-11
+same-length-11 c = c .before .before .before .before .before .before .before .before .before .before .before .before .before .before .by-rules .kept .1 .1 .1 .1 .1 .1 .1 .1 .0
 
 returns : tie.Need-returns
 returns c =
-    let s = c .before .before .before .before .before .before .before .before .before .before .before .before .before .before .before .before .before .before .before .before .before .before .before .before .before .before .before .before .before .before .before .before .before .before .before .before .before .before .before .before .before .before .before .before .before .before .before .before .before .before .before .before in
-    let u = c .before .before .before .before .before .before .before .before .before .before .before .before .before .before .before .before .before .before .before .before .before .before .before .before .before .before .before .before .before .before .before .before .before .before .before .before .before .before .before .before .before .by-clauses .ensures in
-    let a = c .before .before .before .before .before .before .before .before .before .before .before .before .before .before .before .before .before .before .before .before .before .before .before .before .before .before .before .before .before .before .before .before .before .before .before .by-and-gates .ensures in
-    let x = c .before .before .before .before .before .before .before .before .before .before .before .before .before .before .before .before .before .before .before .before .before .before .before .by-xors .ensures in
-    let i = c .before .before .before .before .before .before .before .before .by-ites .ensures in
-    let z = s .pre .1 .1 .1 .1 .1 .1 .1 .0 .0 in (
-      i .0 .making _ z (s .pre .1 .0) (x .0),
-      rules-gathered (clausesIn (now (s .args .codes))) (now (s .args .old)) _ _ _ _ _ _ _ _ (a .1 .0) (x .1 .0) (i .0 .later)
-          (u .1 .1 .0) (u .1 .1 .1) (a .1 .1 .0) (a .1 .1 .1) (x .1 .1 .0) (x .1 .1 .1) (sides-rule7 z (i .1 .1) (i .1 .0)) (sides-rule8 z (i .1 .1)),
-    )
+    let s = c .before .before .before .before .before .before .before .before .before .before .before .before .before .before .before .before .before .before .before .before .before .before .before .before .before .before .before .before .before .before .before .before .before .before .before .before .before .before .before .before .before .before .before .before .before .before .before .before .before .before .before .before .before .before .before .before .before .before .pre in
+    let a = c .before .before .before .before .before .before .before .before .before .before .before .before .before .before .before .before .before .before .before .before .before .before .before .before .before .before .before .before .before .before .before .before .before .before .take-active .ensures in
+    let r = c .before .before .before .before .before .before .before .before .before .before .before .before .before .before .by-rules .ensures in
+    (part-making (s .0) (a .1 .0) (r .0), part-joined (s .0) (a .1 .0) (r .0) (a .1 .1) (r .1))
 
 pub round-spec : {M : Type 1} → statement M
 round-spec =
     tie.close
     (tie.spec
-    by-clauses-requires
-    by-and-gates-requires
-    by-xors-requires
-    by-ites-requires
+    take-active-requires
+    slice-reshare-prefix-by-rules
+    slice-aggregate-by-rules
+    slice-reshare-prefix-by-rules-2
+    slice-aggregate-by-rules-2
+    by-rules-requires
     same-length
     same-length-2
     same-length-3
     same-length-4
     same-length-5
+    same-length-6
+    same-length-7
+    same-length-8
+    same-length-9
+    same-length-10
+    same-length-11
     returns)

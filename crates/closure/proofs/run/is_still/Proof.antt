@@ -1,6 +1,6 @@
 -- `closure::run::is_still` meets its contract.
 -- Assumes nothing.
-use Rattle.closure.proofs.Running.{still-clash, still-joins}
+use Rattle.closure.proofs.Running.{still-joins, still-clash}
 use Rattle.closure.proofs.run.is_still.Statement.{statement}
 use Rattle.closure.proofs.run.is_still.Tie as tie
 
@@ -11,8 +11,4 @@ returns-2 : tie.Need-returns-2
 returns-2 c = still-joins (c .before .before .args .t) (c .before .if1 .left)
 
 pub is-still-spec : {M : Type 1} → statement M
-is-still-spec =
-    tie.close
-    (tie.spec
-    returns
-    returns-2)
+is-still-spec = tie.close (tie.spec returns returns-2)

@@ -1,0 +1,52 @@
+-- Rounds, one after the other: what holds before each of them, and how one leads to the next. Only inner contracts cite these.
+-- Assumes nothing.
+use mathlib.Core.Path.{_≡_}
+use mathlib.Core.Logic.{_⊎_}
+use mathlib.Core.Bool.{Bool, true, false, not, _&&_}
+use mathlib.Core.List.{List}
+use Prim.Native.Nat.{ℕ, _+_, _≤_, _<_}
+use lib.Dec.{eqb}
+use lib.ListN.{length, replicate}
+use Rattle.clauses.specs.Limit.{maxNets, maxEntries}
+use Rattle.clauses.specs.Code.{net}
+use Rattle.clauses.specs.Clause.{clausesIn}
+use Rattle.clauses.specs.Listing.{Fits}
+use Rattle.gates.specs.Found.{Found}
+use Rattle.rules.specs.Answer.{noLead}
+use Rattle.rules.specs.declared.Verdict.the-variants.{Contradiction, Settled, Unfinished}
+use Rattle.passes.specs.Making.{Making, fresh}
+use Rattle.passes.specs.Parts.{Moved}
+use Rattle.passes.specs.RowJoined.{RowJoined}
+use Rattle.passes.specs.declared.tally.Tally.{Tally}
+use Rattle.closure.specs.declared.run.Progress.{Progress}
+
+-- the round before has joined all that the older leads draw, or this is the first round and every net counts as changed
+abbrev pub Before : List ℕ → List ℕ → List ℕ → List ℕ → Type 0
+Before row marks older old = RowJoined row marks older old (fresh 0) ⊎ ((x : ℕ) → 0 < net x → net x ≤ length old → Moved older old x)
+
+-- a round from the old leads can be made
+pub record Starting (row marks older old new : List ℕ) (groups : ℕ) : Type 0 where
+  pub found : Found (clausesIn row) row marks
+  pub fits : Fits (length old) (clausesIn row)
+  pub nets : length old ≤ maxNets
+  pub entries : length row ≤ maxEntries
+  pub size : length older ≡ length old
+  pub making : Making (clausesIn row) old new (fresh groups)
+  pub same : new ≡ old
+  pub before : Before row marks older old
+
+-- the round has joined nothing
+unfoldable pub isStill : Tally → Bool
+isStill t = not (t .clash) && eqb (t .joins) 0
+
+-- what follows a round: an end, or the next round from its leads
+pub data Followed (limit : ℕ) (s : Progress) (t : Tally) (leads next leads′ older′ : List ℕ) : Progress → Type 0 where
+  settled : isStill t ≡ true → leads′ ≡ leads
+      → Followed limit s t leads next leads′ older′ (record { verdict = Settled; rounds = s .rounds; groups = s .groups; more = false })
+  -- the round that shows a list to be settled may lie past the limit
+  stopped : isStill t ≡ false → s .rounds ≡ limit → leads′ ≡ leads
+      → Followed limit s t leads next leads′ older′ (record { verdict = Unfinished; rounds = s .rounds; groups = s .groups; more = false })
+  clashed : isStill t ≡ false → s .rounds < limit → t .clash ≡ true → leads′ ≡ replicate (length leads) noLead
+      → Followed limit s t leads next leads′ older′ (record { verdict = Contradiction; rounds = s .rounds + 1; groups = 0; more = false })
+  made : isStill t ≡ false → s .rounds < limit → t .clash ≡ false → leads′ ≡ next → older′ ≡ leads
+      → Followed limit s t leads next leads′ older′ (record { verdict = Unfinished; rounds = s .rounds + 1; groups = t .groups; more = true })

@@ -1,0 +1,174 @@
+-- Clauses none of whose leads has changed: what a round draws from them the round before has drawn.
+-- Assumes nothing.
+use mathlib.Core.Path.{_≡_, sym, _∙_, ap, subst, subst⁻¹}
+use mathlib.Core.Logic.{_⊎_, inl, inr, ⊎-map}
+use mathlib.Core.Bool.{Bool, false≢true, not}
+use mathlib.Core.List.{List, [], _∷_, List·Memᴰ·head, List·Memᴰ·tail}
+use Prim.Native.Nat.{ℕ, _+_, _<_}
+use native.Mathlib.Decide.{ℕ-discrete}
+use lib.ListN.{length, getD}
+use Rattle.clauses.specs.Code.{negate}
+use Rattle.clauses.specs.Clause.{Mem}
+use Rattle.clauses.proofs.Lists.{in-first}
+use Rattle.clauses.proofs.Codes.{negate-negate}
+use Rattle.gates.specs.Sign.{flip}
+use Rattle.gates.specs.Gate.{Input}
+use Rattle.gates.specs.Found.{clauseAt, Starts, LiteralAt}
+use Rattle.gates.proofs.Rows.{clause-at, mem-at, literal-in, literal-of}
+use Rattle.rules.specs.Answer.{leadOf}
+use Rattle.passes.specs.Making.{Kernel, Making, fresh, JoinedBy}
+use Rattle.passes.specs.Passing.{UnitJoined, ClauseJoined, AndJoined}
+use Rattle.passes.specs.Matching.{HasLead, Alike}
+use Rattle.passes.specs.Xors.{packed, restAt, keyAt, sumAt}
+use Rattle.passes.specs.Marked.{Marked}
+use Rattle.passes.specs.RowJoined.{SideAt}
+use Rattle.passes.specs.Parts.{Moved, Stirred}
+use Rattle.passes.specs.declared.tally.Tally.{Tally}
+use Rattle.passes.proofs.OddNets.{odd-nets-alike, odd-sign-alike}
+use Rattle.passes.proofs.Searches.{lead-false, lead-true, lead-negate}
+use Rattle.passes.proofs.XorPlaces.{others-at}
+use Rattle.passes.proofs.Starts.{start-is}
+use Rattle.passes.proofs.PartPlaces.{side-in}
+
+-- each of the list's elements has the one property, or some element has the other
+pub all-or-some : {P Q : ℕ → Type 0} → ((x : ℕ) → P x ⊎ Q x) → (l : List ℕ) → ((x : ℕ) → Mem x l → P x) ⊎ ((x : ℕ) × Mem x l × Q x)
+all-or-some d [] = inl (λ x m. elim m [ ])
+all-or-some {P} {Q} d (y ∷ l) = go (d y) (all-or-some d l)
+  where
+    go : P y ⊎ Q y → ((x : ℕ) → Mem x l → P x) ⊎ ((x : ℕ) × Mem x l × Q x) → ((x : ℕ) → Mem x (y ∷ l) → P x) ⊎ ((x : ℕ) × Mem x (y ∷ l) × Q x)
+    go (inr q) r = inr (y, in-first, q)
+    go (inl p) (inr (x, m, q)) = inr (x, List·Memᴰ·tail m, q)
+    go (inl p) (inl h) = inl (λ x m. all x m)
+      where
+        all : (x : ℕ) → Mem x (y ∷ l) → P x
+        all x (List·Memᴰ·head e) = subst⁻¹ P e p
+        all x (List·Memᴰ·tail m) = h x m
+
+-- the lead of x is the one before
+abbrev pub Kept : List ℕ → List ℕ → ℕ → Type 0
+Kept older old x = leadOf older x ≡ leadOf old x
+
+-- no lead of the clause at b has changed
+pub record Calm (row older old : List ℕ) (b : ℕ) : Type 0 where
+  pub kept : (x : ℕ) → Mem x (clauseAt row b) → Kept older old x
+
+pub calm-or-stirred : (row older old : List ℕ) (b : ℕ) → Starts row b → Calm row older old b ⊎ Stirred row older old b
+calm-or-stirred row older old b s =
+    ⊎-map (λ h. record { kept = h }) stirred
+    (all-or-some {P = Kept older old} {Q = Moved older old} (λ x. moved x (ℕ-discrete (leadOf older x) (leadOf old x))) (clauseAt row b))
+  where
+    moved : (x : ℕ) → Dec (Kept older old x) → Kept older old x ⊎ Moved older old x
+    moved x (yes e) = inl e
+    moved x (no n) = inr n
+
+    stirred : (x : ℕ) × Mem x (clauseAt row b) × Moved older old x → Stirred row older old b
+    stirred (x, m, n) = let o = literal-of row b s x m in record { place = o .place; at = o .at; moved = subst⁻¹ (Moved older old) (o .is) n }
+
+module _ (older old : List ℕ) where
+  pub kernel-before : (x y : ℕ) → Kept older old x → Kept older old y → Kernel old x y → Kernel older x y
+  kernel-before x y e f k = e ∙ k ∙ sym f
+
+  pub kept-false : Kept older old 0
+  kept-false = lead-false older ∙ sym (lead-false old)
+
+  pub kept-true : Kept older old 1
+  kept-true = lead-true older ∙ sym (lead-true old)
+
+  kept-inverse : (x : ℕ) → Kept older old x → Kept older old (negate x)
+  kept-inverse x e = lead-negate older x ∙ ap negate e ∙ sym (lead-negate old x)
+
+  kept-negate : (x : ℕ) → Kept older old (negate x) → Kept older old x
+  kept-negate x e = subst (Kept older old) (negate-negate x) (kept-inverse (negate x) e)
+
+-- the other literals of an XOR's clause are of the clause
+pub rest-in : (row : List ℕ) (b p x : ℕ) → Mem x (restAt row b p) → Mem x (clauseAt row b)
+unfolding restAt
+rest-in row b p x m = go (others-at row p b (length (clauseAt row b)) x m)
+  where
+    go : (i : ℕ) × (i < length (clauseAt row b)) × (x ≡ getD row (b + i) 0) → Mem x (clauseAt row b)
+    go (i, h, e) = subst⁻¹ (λ (y : ℕ). Mem y (clauseAt row b)) (e ∙ sym (clause-at row b i h)) (mem-at (clauseAt row b) i h)
+
+-- what was joined then is joined now
+pub joined-before : {cs : List (List ℕ)} {old new : List ℕ} {t : Tally} → Making cs old new t → (x y : ℕ) → JoinedBy old (fresh 0) x y → JoinedBy new t x y
+joined-before making x y (inl c) = absurd (false≢true c)
+joined-before making x y (inr k) = inr (making .still x y k)
+
+module _ {row older old : List ℕ} {b : ℕ} (calm : Calm row older old b) where
+  pub kept-at : {p : ℕ} → LiteralAt row b p → Kept older old (getD row p 0)
+  kept-at {p} k = calm .kept (getD row p 0) (literal-in row b p k)
+
+  -- Rules 1, 2 and 3
+
+  module _ {cs : List (List ℕ)} {new : List ℕ} {t : Tally} (making : Making cs old new t) where
+    unit-calm : UnitJoined row older old (fresh 0) b → UnitJoined row old new t b
+    unit-calm u =
+        record {
+          unit = λ k m h. joined-before making k 1 (u .unit k m (λ x i n. kernel-before older old x 0 (calm .kept x i) (kept-false older old) (h x i n)));
+          empty-clause = λ z. joined-before making 1 0 (u .empty-clause z);
+        }
+
+    pub clause-calm : (marks : List ℕ) → ClauseJoined row marks older old (fresh 0) b → ClauseJoined row marks old new t b
+    clause-calm marks j = (unit-calm (j .0), λ i. joined-before making _ _ (j .1 i))
+
+    pub and-calm : {p : ℕ} → AndJoined row older old (fresh 0) b p → AndJoined row old new t b p
+    and-calm {p} j =
+        record {
+          and-false = λ r i h. joined-before making _ 0 (j .and-false r i (kernel-before older old r 0 (kept i) (kept-false older old) h));
+          and-inverses = λ r s i l h.
+              joined-before making _ 0 (j .and-inverses r s i l (kernel-before older old r (negate s) (kept i) (calm .kept (negate s) (l .inverse)) h));
+          and-input = λ r i h. joined-before making _ r (j .and-input r i (λ s l. inputs r s i l (h s l)));
+        }
+      where
+        In : ℕ → Type 0
+        In = Input (clauseAt row b) (getD row p 0)
+
+        kept : {r : ℕ} → In r → Kept older old r
+        kept {r} i = kept-negate older old r (calm .kept (negate r) (i .inverse))
+
+        inputs : (r s : ℕ) → In r → In s → Kernel old s 1 ⊎ Kernel old s r → Kernel older s 1 ⊎ Kernel older s r
+        inputs r s i l = ⊎-map (kernel-before older old s 1 (kept l) (kept-true older old)) (kernel-before older old s r (kept l) (kept i))
+
+  -- The leads of an AND's inputs
+
+  module _ {p x : ℕ} (k : LiteralAt row b p) where
+    lead-kept : {leads : List ℕ} (h : HasLead row leads p x) → Kept older old (getD row (h .place) 0)
+    lead-kept h = kept-at (subst⁻¹ (λ (a : ℕ). LiteralAt row a (h .place)) (start-is row b p k) (h .at))
+
+    lead-before : HasLead row old p x → HasLead row older p x
+    lead-before h = record { place = h .place; at = h .at; apart = h .apart; lead = lead-kept h ∙ h .lead }
+
+    lead-after : HasLead row older p x → HasLead row old p x
+    lead-after h = record { place = h .place; at = h .at; apart = h .apart; lead = sym (lead-kept h) ∙ h .lead }
+
+  -- Rules 5 and 6
+
+  module _ (p : ℕ) where
+    rest-kept : (x : ℕ) → Mem x (restAt row b p) → Kept older old x
+    rest-kept x m = calm .kept x (rest-in row b p x m)
+
+    pub key-before : keyAt older row b p ≡ keyAt old row b p
+    unfolding keyAt
+    key-before = ap packed (odd-nets-alike (leadOf older) (leadOf old) (restAt row b p) rest-kept)
+
+    pub sum-before : sumAt older row b p ≡ sumAt old row b p
+    unfolding sumAt
+    sum-before = ap (λ (s : Bool). flip (not s) (getD row p 0)) (odd-sign-alike (leadOf older) (leadOf old) (restAt row b p) rest-kept)
+
+-- Rule 4
+
+pub alike-before : {row older old : List ℕ} {b p d q : ℕ} → Calm row older old b → LiteralAt row b p → Calm row older old d → LiteralAt row d q
+    → Alike row old p q → Alike row older p q
+alike-before c k e l a =
+    record {
+      left = λ x (h, n). (lead-before e l (a .left x (lead-after c k h, n) .0), n);
+      right = λ x (h, n). (lead-before c k (a .right x (lead-after e l h, n) .0), n);
+    }
+
+-- Rules 7 and 8
+
+module _ {row marks older old : List ℕ} {l c u : ℕ} (s : SideAt row marks l c u) (calm : Calm row older old (s .start)) where
+  pub select-kept : Kept older old c
+  select-kept = kept-negate older old c (subst (Kept older old) (s .select) (kept-at calm (s .at)))
+
+  pub side-kept : {cs : List (List ℕ)} → Marked cs row marks → Kept older old u
+  side-kept marked = calm .kept u (side-in marked s)

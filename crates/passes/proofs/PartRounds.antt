@@ -1,0 +1,106 @@
+-- A round that has gone over a part of the row: a clause of the row is copied into the part, or the round before has drawn what it draws.
+-- Assumes nothing.
+use mathlib.Core.Path.{_≡_, sym, _∙_}
+use mathlib.Core.Logic.{_⊎_, inl, inr}
+use mathlib.Core.List.{List}
+use Prim.Native.Nat.{ℕ, _≤_, _<_}
+use native.Mathlib.Omega.{arith}
+use native.Mathlib.Decide.{ℕ-discrete}
+use lib.ListN.{length, getD}
+use Rattle.clauses.specs.Limit.{maxNets}
+use Rattle.clauses.specs.Code.{net}
+use Rattle.clauses.specs.Clause.{Mem}
+use Rattle.clauses.specs.Listing.{Fits}
+use Rattle.clauses.proofs.Clauses.{fits-present}
+use Rattle.gates.specs.Found.{clauseAt, Starts, LiteralAt}
+use Rattle.gates.proofs.Rows.{literal-in}
+use Rattle.passes.specs.Making.{Making, fresh}
+use Rattle.passes.specs.Passing.{ClauseJoined}
+use Rattle.passes.specs.Xors.{LeadRow}
+use Rattle.passes.specs.Marked.{Marked}
+use Rattle.passes.specs.RowJoined.{RowJoined}
+use Rattle.passes.specs.Parts.{Ended, Copy, Moved, Stirred, Shares, Active, empty, stirred, shares, HoldsActive}
+use Rattle.passes.specs.declared.tally.Tally.{Tally}
+use Rattle.passes.proofs.PartPlaces.{clause-copied}
+use Rattle.passes.proofs.CalmClauses.{Calm, calm-or-stirred, kept-at, clause-calm}
+
+-- the round from the old leads has gone over the part, and the one before, if there was one, over all of the row
+pub record PartRound (cs : List (List ℕ)) (row marks part partMarks older old new : List ℕ) (t : Tally) : Type 0 where
+  pub marked : Marked cs row marks
+  pub fits : Fits (length old) cs
+  pub making : Making cs old new t
+  pub leads : LeadRow old
+  pub nets : length old ≤ maxNets
+  pub holds : HoldsActive row marks older old part partMarks
+  pub ended : Ended part
+  pub before : RowJoined row marks older old (fresh 0) ⊎ ((x : ℕ) → 0 < net x → net x ≤ length old → Moved older old x)
+  pub here : RowJoined part partMarks old new t
+
+-- the clauses at b and d are copied
+pub record Both (row marks part partMarks : List ℕ) (b d : ℕ) : Type 0 where
+  pub b′ : ℕ
+  pub d′ : ℕ
+  pub left : Copy row marks b part partMarks b′
+  pub right : Copy row marks d part partMarks d′
+
+-- how the clauses at b and d stand in the round
+pub data Pair (row marks part partMarks older old : List ℕ) (b d : ℕ) : Type 0 where
+  calm : Calm row older old b → Calm row older old d → Pair row marks part partMarks older old b d
+  copied : Both row marks part partMarks b d → Pair row marks part partMarks older old b d
+  apart : ¬ Shares row old b d → Pair row marks part partMarks older old b d
+
+module _ {cs : List (List ℕ)} {row marks part partMarks older old new : List ℕ} {t : Tally} (r : PartRound cs row marks part partMarks older old new t) where
+  pub net-in : {b : ℕ} → Starts row b → (x : ℕ) → Mem x (clauseAt row b) → (1 ≤ net x) × (net x ≤ length old)
+  net-in {b} s x m = fits-present (r .fits) (r .marked .clause-is b s) x m
+
+  pub active-copied : (b : ℕ) → Starts row b → Active row older old b → (b′ : ℕ) × Copy row marks b part partMarks b′
+  active-copied b s a = go (r .holds b s)
+    where
+      go : ((b′ : ℕ) × Copy row marks b part partMarks b′) ⊎ (¬ Active row older old b) → (b′ : ℕ) × Copy row marks b part partMarks b′
+      go (inl c) = c
+      go (inr n) = absurd (n a)
+
+  pub stirred-copied : {b : ℕ} → Stirred row older old b → (b′ : ℕ) × Copy row marks b part partMarks b′
+  stirred-copied {b} s = active-copied b (s .at .start) (stirred s)
+
+  -- a calm clause with a literal: this is not the first round
+  pub row-before : {b p : ℕ} → LiteralAt row b p → Calm row older old b → RowJoined row marks older old (fresh 0)
+  row-before {b} {p} k c = go (r .before)
+    where
+      go : RowJoined row marks older old (fresh 0) ⊎ ((x : ℕ) → 0 < net x → net x ≤ length old → Moved older old x) → RowJoined row marks older old (fresh 0)
+      go (inl j) = j
+      go (inr all) =
+          let n = net-in (k .start) (getD row p 0) (literal-in row b p k) in
+          absurd (all (getD row p 0) (omega (arith, n .0)) (n .1) (kept-at c k))
+
+  -- two clauses
+  pub pair-of : (b d : ℕ) → Starts row b → Starts row d → Pair row marks part partMarks older old b d
+  pair-of b d s u = go (calm-or-stirred row older old b s) (calm-or-stirred row older old d u) (r .holds b s) (r .holds d u)
+    where
+      both : (b′ : ℕ) × Copy row marks b part partMarks b′ → (d′ : ℕ) × Copy row marks d part partMarks d′ → Pair row marks part partMarks older old b d
+      both (b′, c) (d′, e) = copied (record { b′ = b′; d′ = d′; left = c; right = e })
+
+      back : Shares row old b d → Shares row old d b
+      back h = record { place = h .other; at = h .other-at; other = h .place; other-at = h .at; same = sym (h .same); variable = λ z. h .variable (h .same ∙ z) }
+
+      go : Calm row older old b ⊎ Stirred row older old b → Calm row older old d ⊎ Stirred row older old d
+          → ((b′ : ℕ) × Copy row marks b part partMarks b′) ⊎ (¬ Active row older old b)
+          → ((d′ : ℕ) × Copy row marks d part partMarks d′) ⊎ (¬ Active row older old d)
+          → Pair row marks part partMarks older old b d
+      go (inl c) (inl e) h i = calm c e
+      go (inr c) e h (inl k) = both (stirred-copied c) k
+      go (inr c) e h (inr n) = apart (λ k. n (shares b c (back k)))
+      go (inl c) (inr e) (inl k) i = both k (stirred-copied e)
+      go (inl c) (inr e) (inr n) i = apart (λ k. n (shares d e k))
+
+  -- Rules 1 and 2
+  pub clauses-joined : (b : ℕ) → Starts row b → ClauseJoined row marks old new t b
+  clauses-joined b s = go (ℕ-discrete (length (clauseAt row b)) 0) (calm-or-stirred row older old b s)
+    where
+      by-copy : (b′ : ℕ) × Copy row marks b part partMarks b′ → ClauseJoined row marks old new t b
+      by-copy (b′, c) = clause-copied c (r .marked) (r .here .clauses b′ (c .start′))
+
+      go : Dec (length (clauseAt row b) ≡ 0) → Calm row older old b ⊎ Stirred row older old b → ClauseJoined row marks old new t b
+      go (yes z) c = by-copy (active-copied b s (empty z))
+      go (no n) (inr c) = by-copy (stirred-copied c)
+      go (no n) (inl c) = clause-calm c (r .making) marks (row-before {p = b} (record { start = s; low = omega arith; high = omega arith }) c .clauses b s)

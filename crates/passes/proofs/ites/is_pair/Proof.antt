@@ -1,0 +1,52 @@
+-- `passes::ites::is_pair` meets its contract.
+-- Assumes nothing.
+use borrow.Author.Needs.{needs}
+use denote.Ref.{now}
+use Rattle.passes.proofs.SidePairs.{no-select, no-output, by-nets}
+use Rattle.passes.proofs.ites.is_pair.Statement.{statement}
+use Rattle.passes.proofs.ites.is_pair.Tie as tie
+
+select-of-requires : tie.Need-select-of-requires
+select-of-requires c κs = search needs
+
+select-of-requires-2 : tie.Need-select-of-requires-2
+select-of-requires-2 c κs = search needs
+
+flipped-requires : tie.Need-flipped-requires
+flipped-requires c κs = search needs
+
+returns : tie.Need-returns
+returns c = no-select (now (c .before .before .before .before .before .args .sides)) (c .before .before .before .before .before .args .k) (c .before .before .before .before .before .args .j) (rw (← c .before .before .before .select-of .ensures, ← c .before .before .select-of2 .ensures, ← c .before .flipped .ensures) (c .if1 .taken))
+
+output-of-requires : tie.Need-output-of-requires
+output-of-requires c κs = search needs
+
+output-of-requires-2 : tie.Need-output-of-requires-2
+output-of-requires-2 c κs = search needs
+
+returns-2 : tie.Need-returns-2
+returns-2 c = no-output (now (c .before .before .before .before .before .before .before .before .args .sides)) (c .before .before .before .before .before .before .before .before .args .k) (c .before .before .before .before .before .before .before .before .args .j) (rw (← c .before .before .before .before .before .before .select-of .ensures, ← c .before .before .before .before .before .select-of2 .ensures, ← c .before .before .before .before .flipped .ensures) (c .before .before .before .if1 .left)) (rw (← c .before .before .output-of .ensures, ← c .before .output-of2 .ensures) (c .if2 .taken))
+
+then-of-requires : tie.Need-then-of-requires
+then-of-requires c κs = search needs
+
+then-of-requires-2 : tie.Need-then-of-requires-2
+then-of-requires-2 c κs = search needs
+
+returns-3 : tie.Need-returns-3
+returns-3 c = rw (c .before .then-of .ensures, c .then-of2 .ensures) (by-nets (now (c .before .before .before .before .before .before .before .before .before .before .args .sides)) (c .before .before .before .before .before .before .before .before .before .before .args .k) (c .before .before .before .before .before .before .before .before .before .before .args .j) (rw (← c .before .before .before .before .before .before .before .before .select-of .ensures, ← c .before .before .before .before .before .before .before .select-of2 .ensures, ← c .before .before .before .before .before .before .flipped .ensures) (c .before .before .before .before .before .if1 .left)) (rw (← c .before .before .before .before .output-of .ensures, ← c .before .before .before .output-of2 .ensures) (c .before .before .if2 .left)))
+
+pub is-pair-spec : {M : Type 1} → statement M
+is-pair-spec =
+    tie.close
+    (tie.spec
+    select-of-requires
+    select-of-requires-2
+    flipped-requires
+    returns
+    output-of-requires
+    output-of-requires-2
+    returns-2
+    then-of-requires
+    then-of-requires-2
+    returns-3)

@@ -1,0 +1,61 @@
+-- `passes::net_chains::chain_places` meets its contract.
+-- Assumes nothing.
+use mathlib.Core.Path.{_≡_, refl, _∙_, ap}
+use Prim.Native.Nat.{ℕ, _-_, _≤_}
+use native.Mathlib.Omega.{arith}
+use lib.ListN.{length, length-replicate}
+use Rattle.passes.specs.Taking.{netAt}
+use Rattle.passes.proofs.Chains.{chain-none}
+use Rattle.passes.specs.Sides.{Chained}
+use borrow.Author.Needs.{needs}
+use Rattle.passes.proofs.net_chains.chain_places.Statement.{statement}
+use Rattle.passes.proofs.net_chains.chain_places.Tie as tie
+
+abbrev Inv-loop : tie.InvT-loop
+Inv-loop codes heads₀ next₀ q₀ heads next q = (length heads ≡ length heads₀) × (length next ≡ length next₀) × (q ≤ length codes) × Chained (netAt codes) q heads next
+
+abbrev μ-loop : tie.MeasureT-loop
+μ-loop codes heads₀ next₀ q₀ heads next q = length codes - q
+
+loop-holds : tie.Need-loop-holds Inv-loop μ-loop
+loop-holds c = (refl, refl, omega arith, chain-none _ 1025 _ _ (c .before .before .before .pre .1 .0))
+
+link-requires : tie.Need-link-requires Inv-loop μ-loop
+link-requires c κs =
+    let p = c .before .before .before .before .before .before .before .pre in
+    let l = c .before .before .before .loop in
+    let s : length (l .heads) ≡ 1025 = l .inv .0 ∙ ap length (p .1 .0) ∙ length-replicate {A = ℕ} 1025 0 in
+    ((c .before .before .loop-test .taken, p .0 .0, omega arith), (omega (arith, p .1 .1 (l .q)), l .inv .3))
+
+add-q : tie.Need-add-q Inv-loop μ-loop
+add-q c = search needs
+
+loop-less : tie.Need-loop-less Inv-loop μ-loop
+loop-less c = search needs
+
+loop-again : tie.Need-loop-again Inv-loop μ-loop
+loop-again c = (omega arith, omega arith, omega arith, c .before .before .before .before .link .ensures)
+
+same-length : tie.Need-same-length Inv-loop μ-loop
+same-length c = search needs
+
+same-length-2 : tie.Need-same-length-2 Inv-loop μ-loop
+same-length-2 c = search needs
+
+returns : tie.Need-returns Inv-loop μ-loop
+returns c = let e : c .before .loop .q ≡ length (c .before .before .before .before .before .args .codes .now) = omega arith in rw e at (c .before .loop .inv .3)
+
+pub chain-places-spec : {M : Type 1} → statement M
+chain-places-spec =
+    tie.close
+    (tie.spec
+    Inv-loop
+    μ-loop
+    loop-holds
+    link-requires
+    add-q
+    loop-less
+    loop-again
+    same-length
+    same-length-2
+    returns)

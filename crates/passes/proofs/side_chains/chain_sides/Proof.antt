@@ -1,0 +1,60 @@
+-- `passes::side_chains::chain_sides` meets its contract.
+-- Assumes nothing.
+use mathlib.Core.Path.{_≡_, refl, _∙_, ap}
+use Prim.Native.Nat.{ℕ, _-_, _*_, _≤_}
+use native.Mathlib.Omega.{arith}
+use lib.ListN.{length, length-replicate}
+use denote.Ref.{now}
+use Rattle.passes.specs.Sides.{sideCount, keyOf, Chained}
+use Rattle.passes.proofs.Chains.{chain-none}
+use Rattle.passes.proofs.side_chains.chain_sides.Statement.{statement}
+use Rattle.passes.proofs.side_chains.chain_sides.Tie as tie
+
+abbrev Inv-loop : tie.InvT-loop
+Inv-loop sides old heads₀ next₀ n m₀ heads next m = (length heads ≡ length heads₀) × (length next ≡ length next₀) × (m ≤ n) × Chained (keyOf sides old) m heads next
+
+abbrev μ-loop : tie.MeasureT-loop
+μ-loop sides old heads₀ next₀ n m₀ heads next m = n - m
+
+mul-n : tie.Need-mul-n Inv-loop μ-loop
+mul-n c = omega arith
+
+loop-holds : tie.Need-loop-holds Inv-loop μ-loop
+loop-holds c = (refl, refl, omega arith, chain-none _ 8192 _ _ (c .before .before .before .before .pre .1 .0))
+
+link-requires : tie.Need-link-requires Inv-loop μ-loop
+link-requires c κs = ((c .before .before .loop-test .taken, c .before .before .before .before .before .before .before .before .pre .0), ((c .before .before .before .loop .inv .0 ∙ ap length (c .before .before .before .before .before .before .before .before .pre .1 .0) ∙ length-replicate {A = ℕ} 8192 0, c .before .before .before .loop .inv .1 ∙ c .before .before .before .before .before .before .before .before .pre .1 .1), c .before .before .before .loop .inv .3))
+
+add-m : tie.Need-add-m Inv-loop μ-loop
+add-m c = omega (arith, c .before .before .before .before .before .before .before .loop-test .taken)
+
+loop-less : tie.Need-loop-less Inv-loop μ-loop
+loop-less c = omega (arith, c .before .before .before .before .before .before .before .loop-test .taken)
+
+loop-again : tie.Need-loop-again Inv-loop μ-loop
+loop-again c = (c .before .before .before .before .link .kept .1 .1 .1 .0 ∙ c .before .before .before .before .before .before .before .before .loop .inv .0, c .before .before .before .before .link .kept .1 .1 .1 .1 .0 ∙ c .before .before .before .before .before .before .before .before .loop .inv .1, omega (arith, c .before .before .before .before .before .before .before .loop-test .taken), c .before .before .before .before .link .ensures)
+
+same-length : tie.Need-same-length Inv-loop μ-loop
+same-length c = c .before .loop .inv .0
+
+same-length-2 : tie.Need-same-length-2 Inv-loop μ-loop
+same-length-2 c = c .before .loop .inv .1
+
+returns : tie.Need-returns Inv-loop μ-loop
+returns c = let e : c .before .loop .m ≡ 2 * sideCount (now (c .before .before .before .before .before .before .args .sides)) = omega (arith, c .loop-test .left, c .before .loop .inv .2) in rw e at (c .before .loop .inv .3)
+
+pub chain-sides-spec : {M : Type 1} → statement M
+chain-sides-spec =
+    tie.close
+    (tie.spec
+    Inv-loop
+    μ-loop
+    mul-n
+    loop-holds
+    link-requires
+    add-m
+    loop-less
+    loop-again
+    same-length
+    same-length-2
+    returns)

@@ -1,0 +1,14 @@
+pub mod Making
+pub mod Passing
+pub mod Sides
+pub mod Holding
+pub mod Matching
+pub mod Joining
+pub mod Xors
+pub mod Table
+pub mod XorMatching
+pub mod Scratch
+pub mod Marked
+pub mod RowJoined
+pub mod Parts
+pub mod Taking

@@ -1,0 +1,59 @@
+-- The part of a row that a round has to go over: clauses of which a lead has changed, and those that share a lead with one. What did not
+-- change draws no new conclusion. Only inner contracts cite these.
+-- Assumes nothing.
+use mathlib.Core.Path.{_≡_}
+use mathlib.Core.Logic.{_≢_, _⊎_}
+use mathlib.Core.List.{List}
+use Prim.Native.Nat.{ℕ, _+_, _≤_, _<_}
+use lib.ListN.{length, getD}
+use Rattle.clauses.specs.Code.{net}
+use Rattle.gates.specs.Found.{clauseAt, Starts, LiteralAt}
+use Rattle.rules.specs.Answer.{leadOf}
+use Rattle.passes.specs.Passing.{leadAt}
+
+-- every clause of the row is ended by a 0 within it
+abbrev pub Ended : List ℕ → Type 0
+Ended row = (b : ℕ) → Starts row b → b + length (clauseAt row b) < length row
+
+-- the clause at b of a row, with its marks, stands at b′ of its part
+pub record Copy (row marks : List ℕ) (b : ℕ) (part partMarks : List ℕ) (b′ : ℕ) : Type 0 where
+  pub start : Starts row b
+  pub start′ : Starts part b′
+  pub clause : clauseAt part b′ ≡ clauseAt row b
+  pub mark : (i : ℕ) → i ≤ length (clauseAt row b) → getD partMarks (b′ + i) 0 ≡ getD marks (b + i) 0
+
+-- every clause of the part is one of the row's
+pub record Part (row marks part partMarks : List ℕ) : Type 0 where
+  pub size : length partMarks ≡ length part
+  pub ended : Ended part
+  pub from : (b′ : ℕ) → Starts part b′ → (b : ℕ) × Copy row marks b part partMarks b′
+
+-- the lead of x is another one than before
+abbrev pub Moved : List ℕ → List ℕ → ℕ → Type 0
+Moved older old x = leadOf older x ≢ leadOf old x
+
+-- a lead of the clause at b has changed
+pub record Stirred (row older old : List ℕ) (b : ℕ) : Type 0 where
+  pub place : ℕ
+  pub at : LiteralAt row b place
+  pub moved : Moved older old (getD row place 0)
+
+-- the clauses at b and d have leads of one net
+pub record Shares (row old : List ℕ) (b d : ℕ) : Type 0 where
+  pub place : ℕ
+  pub at : LiteralAt row b place
+  pub other : ℕ
+  pub other-at : LiteralAt row d other
+  pub same : net (leadAt row old place) ≡ net (leadAt row old other)
+  pub variable : net (leadAt row old place) ≢ 0
+
+-- the round has to go over the clause at b
+pub data Active (row older old : List ℕ) (b : ℕ) : Type 0 where
+  empty : length (clauseAt row b) ≡ 0 → Active row older old b
+  stirred : Stirred row older old b → Active row older old b
+  shares : (d : ℕ) → Stirred row older old d → Shares row old b d → Active row older old b
+
+-- every active clause is in the part
+abbrev pub HoldsActive : List ℕ → List ℕ → List ℕ → List ℕ → List ℕ → List ℕ → Type 0
+HoldsActive row marks older old part partMarks =
+    (b : ℕ) → Starts row b → ((b′ : ℕ) × Copy row marks b part partMarks b′) ⊎ (¬ Active row older old b)

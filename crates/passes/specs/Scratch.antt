@@ -1,0 +1,24 @@
+-- The rows that a round works in, made once for all rounds: nothing is asked of what they hold. Only inner contracts cite these.
+-- Assumes nothing.
+use mathlib.Core.Path.{_≡_}
+use mathlib.Core.List.{List}
+use Prim.Native.Nat.{ℕ, _+_, _*_}
+use lib.ListN.{length}
+use Rattle.clauses.specs.Limit.{maxNets, maxEntries}
+use Rattle.passes.specs.Sides.{maxSides, buckets}
+
+-- the rows of the passes
+pub record Scratch (keys values heads chain sides : List ℕ) : Type 0 where
+  pub key-room : length keys ≡ maxEntries
+  pub value-room : length values ≡ maxEntries
+  pub head-room : length heads ≡ 2 * buckets
+  pub chain-room : length chain ≡ 2 * maxSides
+  pub side-room : length sides ≡ 3 * maxSides
+
+-- the rows of the active part: one with an entry for each net, one with an entry for each literal and constant, one with an entry for each place, the part and its marks
+pub record PartRows (moved touched seen part tags : List ℕ) : Type 0 where
+  pub moved-room : length moved ≡ maxNets + 1
+  pub touched-room : length touched ≡ 2 * maxNets + 2
+  pub seen-room : length seen ≡ maxEntries
+  pub part-room : length part ≡ maxEntries
+  pub tag-room : length tags ≡ maxEntries

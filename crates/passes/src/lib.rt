@@ -1,0 +1,22 @@
+// The passes of a round over a row of clauses: one for each kind of gate, joining what the closing rules draw.
+
+mod and_pairs;
+mod and_sets;
+mod ands;
+mod clashes;
+mod held;
+mod ites;
+mod kinds;
+pub mod lead;
+mod literals;
+pub mod net_chains;
+mod nets;
+pub mod parts;
+pub mod row;
+mod side_chains;
+mod sides;
+mod sign;
+mod table;
+pub mod tally;
+mod units;
+mod xors;
