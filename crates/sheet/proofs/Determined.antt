@@ -4,7 +4,7 @@ use mathlib.Core.Path.{_≡_, refl, sym, _∙_, ap}
 use mathlib.Core.Logic.{_≢_}
 use mathlib.Core.Bool.{Bool, true, false, not, true≢false, false≢true}
 use mathlib.Core.List.{List, [], _∷_, _++_, append-assoc}
-use Prim.Native.Nat.{ℕ, suc, _+_, _*_, _%_, _^_, _≤_, _<_}
+use Prim.Native.Nat.{ℕ, suc, _+_, _%_, _^_, _<_}
 use native.Mathlib.Omega.{arith}
 use borrow.Author.Tests.{eqb-true, eqb-false}
 use borrow.Table.Steps.{cases}
@@ -20,7 +20,7 @@ use Rattle.rules.specs.declared.Verdict.{Verdict}
 use Rattle.rules.specs.declared.Verdict.the-variants.{Contradiction, Settled, Unfinished}
 use Rattle.rules.specs.Answer.{Answer, noLead}
 use Rattle.sheet.specs.Sheet.{comma, namesLine, verdictText, field, numbersText, valuesLine, leadText, netLine, netLeadLine, netLines, leadLines, sheetText}
-use Rattle.sheet.proofs.Lengths.{Small, AllSmall, none, more}
+use Rattle.sheet.proofs.Lengths.{Small, AllSmall, more}
 
 -- Numbers
 

@@ -1,5 +1,4 @@
-use Rattle.clauses.proofs.Writes.{wrote-none, wrote-then}
-use Rattle.clauses.specs.Writing.{Wrote}
+use Rattle.clauses.proofs.Writes.{wrote-then}
 use Rattle.sheet.proofs.Texts.{lead-false, lead-inverse, lead-plain, lead-true}
 use lib.ListN.{length}
 use mathlib.Core.Path.{ap}
@@ -7,10 +6,6 @@ use native.Mathlib.Omega.{arith}
 use borrow.Author.Needs.{needs}
 use Rattle.sheet.proofs.lines.put_lead.Statement.{statement}
 use Rattle.sheet.proofs.lines.put_lead.Tie as tie
-use Rattle.sheet.proofs.lines.put_lead.Reads as reads
-use Rattle.sheet.proofs.lines.put_lead.Lts as lts
-use Rattle.clauses.proofs.writing.put.Reads as put-reads
-use Rattle.clauses.proofs.writing.put_decimal.Reads as put-decimal-reads
 
 -- src/lines.rt:33:9
 put-requires : tie.Need-put-requires

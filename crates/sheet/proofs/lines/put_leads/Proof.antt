@@ -1,11 +1,8 @@
-use Rattle.clauses.proofs.Writes.{wrote-none, wrote-then}
+use Rattle.clauses.proofs.Writes.{wrote-none}
 use Rattle.sheet.specs.Sheet.{leadLines}
 use borrow.Author.Needs.{needs}
 use Rattle.sheet.proofs.lines.put_leads.Statement.{statement}
 use Rattle.sheet.proofs.lines.put_leads.Tie as tie
-use Rattle.sheet.proofs.lines.put_leads.Reads as reads
-use Rattle.sheet.proofs.lines.put_leads.Lts as lts
-use Rattle.sheet.proofs.lines.put_table.Reads as put-table-reads
 
 -- src/lines.rt:113:35
 enum-told : tie.Need-enum-told

@@ -1,16 +1,10 @@
-use Rattle.clauses.proofs.Writes.{wrote-none, wrote-then}
-use Rattle.clauses.specs.Writing.{Wrote}
+use Rattle.clauses.proofs.Writes.{wrote-then}
 use Rattle.sheet.proofs.Texts.{net-length}
 use Rattle.sheet.specs.Sheet.{field, netLine}
 use native.Mathlib.Omega.{arith}
 use borrow.Author.Needs.{needs}
 use Rattle.sheet.proofs.lines.put_net.Statement.{statement}
 use Rattle.sheet.proofs.lines.put_net.Tie as tie
-use Rattle.sheet.proofs.lines.put_net.Reads as reads
-use Rattle.sheet.proofs.lines.put_net.Lts as lts
-use Rattle.clauses.proofs.writing.put.Reads as put-reads
-use Rattle.clauses.proofs.writing.put_word.Reads as put-word-reads
-use Rattle.sheet.proofs.lines.put_lead.Reads as put-lead-reads
 
 -- src/lines.rt:50:9
 put-word-requires : tie.Need-put-word-requires

@@ -15,9 +15,6 @@ use lib.ListN.{length, take}
 use mathlib.Core.Path.{_≡_}
 use Rattle.sheet.proofs.lines.put_nets.Statement.{statement}
 use Rattle.sheet.proofs.lines.put_nets.Tie as tie
-use Rattle.sheet.proofs.lines.put_nets.Reads as reads
-use Rattle.sheet.proofs.lines.put_nets.Lts as lts
-use Rattle.sheet.proofs.lines.put_net.Reads as put-net-reads
 
 abbrev Inv-loop : tie.InvT-loop
 Inv-loop text₀ at leads next₀ i₀ w₀ text next i w = (Wrote text₀ at (netLines 1 (take i leads)) text next) × (i ≤ length leads) × (w ≡ i + 1) × (length text ≡ length text₀)

@@ -1,4 +1,4 @@
-use Rattle.clauses.proofs.Writes.{wrote-none, wrote-then}
+use Rattle.clauses.proofs.Writes.{wrote-then}
 use Rattle.sheet.proofs.Texts.{numbers-length}
 use Rattle.sheet.specs.Sheet.{answerOf, field, numbersText}
 use mathlib.Core.List.{[]}
@@ -6,9 +6,6 @@ use native.Mathlib.Omega.{arith}
 use borrow.Author.Needs.{needs}
 use Rattle.sheet.proofs.lines.put_numbers.Statement.{statement}
 use Rattle.sheet.proofs.lines.put_numbers.Tie as tie
-use Rattle.sheet.proofs.lines.put_numbers.Reads as reads
-use Rattle.sheet.proofs.lines.put_numbers.Lts as lts
-use Rattle.clauses.proofs.writing.put_word.Reads as put-word-reads
 
 -- src/lines.rt:33:9
 put-word-requires : tie.Need-put-word-requires

@@ -6,15 +6,10 @@ use lib.ListN.{length}
 use mathlib.Core.List.{List, []}
 use mathlib.Core.Path.{_∙_, _≡_, ap, sym}
 use native.Mathlib.Omega.{arith}
-use Rattle.clauses.proofs.Writes.{wrote-none, wrote-then}
+use Rattle.clauses.proofs.Writes.{wrote-then}
 use borrow.Author.Needs.{needs}
 use Rattle.sheet.proofs.lines.put_sheet.Statement.{statement}
 use Rattle.sheet.proofs.lines.put_sheet.Tie as tie
-use Rattle.sheet.proofs.lines.put_sheet.Reads as reads
-use Rattle.sheet.proofs.lines.put_sheet.Lts as lts
-use Rattle.clauses.proofs.writing.put_bytes.Reads as put-bytes-reads
-use Rattle.sheet.proofs.lines.put_leads.Reads as put-leads-reads
-use Rattle.sheet.proofs.lines.put_values.Reads as put-values-reads
 
 abbrev leads : tie.Start → List ℕ
 leads c = now (c .args .leads)

@@ -1,4 +1,4 @@
-use Rattle.clauses.proofs.Writes.{wrote-none, wrote-then}
+use Rattle.clauses.proofs.Writes.{wrote-then}
 use Rattle.sheet.specs.Sheet.{netLeadLine, netLines}
 use denote.Ref.{now}
 use lib.ListN.{length-append}
@@ -6,10 +6,6 @@ use native.Mathlib.Omega.{arith}
 use borrow.Author.Needs.{needs}
 use Rattle.sheet.proofs.lines.put_table.Statement.{statement}
 use Rattle.sheet.proofs.lines.put_table.Tie as tie
-use Rattle.sheet.proofs.lines.put_table.Reads as reads
-use Rattle.sheet.proofs.lines.put_table.Lts as lts
-use Rattle.clauses.proofs.writing.put_bytes.Reads as put-bytes-reads
-use Rattle.sheet.proofs.lines.put_nets.Reads as put-nets-reads
 
 -- src/lines.rt:102:36
 slice-aggregate-put-bytes : tie.Need-slice-aggregate-put-bytes

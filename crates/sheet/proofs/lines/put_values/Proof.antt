@@ -1,4 +1,4 @@
-use Rattle.clauses.proofs.Writes.{wrote-none, wrote-then}
+use Rattle.clauses.proofs.Writes.{wrote-then}
 use Rattle.sheet.proofs.Texts.{values-length}
 use Rattle.sheet.specs.Sheet.{answerOf, valuesLine}
 use mathlib.Core.List.{[]}
@@ -6,11 +6,6 @@ use native.Mathlib.Omega.{arith}
 use borrow.Author.Needs.{needs}
 use Rattle.sheet.proofs.lines.put_values.Statement.{statement}
 use Rattle.sheet.proofs.lines.put_values.Tie as tie
-use Rattle.sheet.proofs.lines.put_values.Reads as reads
-use Rattle.sheet.proofs.lines.put_values.Lts as lts
-use Rattle.clauses.proofs.writing.put.Reads as put-reads
-use Rattle.sheet.proofs.lines.put_numbers.Reads as put-numbers-reads
-use Rattle.sheet.proofs.lines.put_verdict.Reads as put-verdict-reads
 
 -- src/lines.rt:47:9
 put-verdict-requires : tie.Need-put-verdict-requires

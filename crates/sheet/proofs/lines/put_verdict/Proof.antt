@@ -2,9 +2,6 @@ use Rattle.sheet.specs.Sheet.{verdictText}
 use borrow.Author.Needs.{needs}
 use Rattle.sheet.proofs.lines.put_verdict.Statement.{statement}
 use Rattle.sheet.proofs.lines.put_verdict.Tie as tie
-use Rattle.sheet.proofs.lines.put_verdict.Reads as reads
-use Rattle.sheet.proofs.lines.put_verdict.Lts as lts
-use Rattle.clauses.proofs.writing.put_bytes.Reads as put-bytes-reads
 
 -- src/lines.rt:21:45
 enum-told : tie.Need-enum-told
