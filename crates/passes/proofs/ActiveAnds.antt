@@ -19,25 +19,25 @@ use Rattle.rules.specs.Answer.{leadOf}
 use Rattle.passes.specs.Making.{Kernel, JoinedBy}
 use Rattle.passes.specs.Passing.{AndJoined}
 use Rattle.passes.specs.Matching.{AndAt, Takes, Alike}
-use Rattle.passes.specs.Parts.{Stirred, Shares}
+use Rattle.passes.specs.Parts.{Changed, Shares}
 use Rattle.passes.specs.declared.tally.Tally.{Tally}
 use Rattle.passes.proofs.Searches.{lead-false, lead-true, lead-negate}
 use Rattle.passes.proofs.JoinedBy.{joined-old, joined-back, joined-chain, joined-same}
 use Rattle.passes.proofs.PartMarks.{across, copy-literal, across-code, across-mark}
 use Rattle.passes.proofs.PartPlaces.{and-copied, and-at-copied, alike-copied}
-use Rattle.passes.proofs.CalmClauses.{all-or-some, Calm, calm-or-stirred, joined-before, and-calm, alike-before}
-use Rattle.passes.proofs.PartRounds.{PartRound, Both, Pair, calm, copied, apart, stirred-copied, row-before, pair-of}
+use Rattle.passes.proofs.UnchangedClauses.{all-or-some, Unchanged, unchanged-or-changed, joined-before, and-unchanged, alike-before}
+use Rattle.passes.proofs.PartRounds.{PartRound, Both, Pair, unchanged, copied, apart, changed-copied, row-before, pair-of}
 
 module _ {cs : List (List ℕ)} {row marks part partMarks older old new : List ℕ} {t : Tally} (r : PartRound cs row marks part partMarks older old new t) where
   -- Rule 3
 
   pub ands-joined : (b p : ℕ) → LiteralAt row b p → isAnd (getD marks p 0) ≡ true → AndJoined row old new t b p
-  ands-joined b p k i = go (calm-or-stirred row older old b (k .start))
+  ands-joined b p k i = go (unchanged-or-changed row older old b (k .start))
     where
-      go : Calm row older old b ⊎ Stirred row older old b → AndJoined row old new t b p
-      go (inl c) = and-calm c (r .making) (row-before r k c .ands b p k i)
+      go : Unchanged row older old b ⊎ Changed row older old b → AndJoined row old new t b p
+      go (inl c) = and-unchanged c (r .making) (row-before r k c .ands b p k i)
       go (inr s) =
-          let f = stirred-copied r s in
+          let f = changed-copied r s in
           and-copied (f .1) k (r .here .ands (f .0) (across b (f .0) p) (copy-literal (f .1) k) (ap isAnd (across-mark (f .1) k) ∙ i))
 
   -- An AND whose inputs are all joined to constants: its output is joined to F or to T
@@ -156,6 +156,6 @@ module _ {cs : List (List ℕ)} {row marks part partMarks older old new : List �
     and-pairs-joined = go (pair-of r (startOf row p) (startOf row q) (a .placed .at .start) (d .placed .at .start))
       where
         go : Pair row marks part partMarks older old (startOf row p) (startOf row q) → JoinedBy new t (getD row p 0) (getD row q 0)
-        go (calm c e) = joined-before (r .making) _ _ (row-before r (a .placed .at) c .and-pairs p q a d (alike-before c (a .placed .at) e (d .placed .at) alike))
+        go (unchanged c e) = joined-before (r .making) _ _ (row-before r (a .placed .at) c .and-pairs p q a d (alike-before c (a .placed .at) e (d .placed .at) alike))
         go (copied c) = copies-joined c
         go (apart n) = constants-joined n

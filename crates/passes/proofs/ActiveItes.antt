@@ -13,26 +13,26 @@ use Rattle.rules.specs.Answer.{leadOf}
 use Rattle.passes.specs.Making.{Kernel, JoinedBy}
 use Rattle.passes.specs.Passing.{leadAt}
 use Rattle.passes.specs.RowJoined.{SideAt, IteAt, ItesJoined}
-use Rattle.passes.specs.Parts.{Stirred, Shares, shares}
+use Rattle.passes.specs.Parts.{Changed, Shares, shares}
 use Rattle.passes.specs.declared.tally.Tally.{Tally}
 use Rattle.passes.proofs.Searches.{lead-true, lead-negate}
 use Rattle.passes.proofs.JoinedBy.{joined-old, joined-back, joined-chain}
 use Rattle.passes.proofs.PartPlaces.{side-copied}
-use Rattle.passes.proofs.CalmClauses.{Calm, calm-or-stirred, kernel-before, kept-true, joined-before, select-kept, side-kept}
-use Rattle.passes.proofs.PartRounds.{PartRound, active-copied, stirred-copied, row-before}
+use Rattle.passes.proofs.UnchangedClauses.{Unchanged, unchanged-or-changed, kernel-before, kept-true, joined-before, select-kept, side-kept}
+use Rattle.passes.proofs.PartRounds.{PartRound, active-copied, changed-copied, row-before}
 
--- a stirred clause with a lead of net w
-record StirredWith (row older old : List ℕ) (w : ℕ) : Type 0 where
+-- a changed clause with a lead of net w
+record ChangedWith (row older old : List ℕ) (w : ℕ) : Type 0 where
   clause : ℕ
-  stirred : Stirred row older old clause
+  changed : Changed row older old clause
   place : ℕ
   at : LiteralAt row clause place
   lead : net (leadAt row old place) ≡ w
 
 -- neither side of the ITE has moved
-record CalmIte {row marks : List ℕ} (older old : List ℕ) {l c u e : ℕ} (i : IteAt row marks l c u e) : Type 0 where
-  thens : Calm row older old (i .then-side .start)
-  elses : Calm row older old (i .else-side .start)
+record UnchangedIte {row marks : List ℕ} (older old : List ℕ) {l c u e : ℕ} (i : IteAt row marks l c u e) : Type 0 where
+  thens : Unchanged row older old (i .then-side .start)
+  elses : Unchanged row older old (i .else-side .start)
 
 inverse-lead : (old : List ℕ) (c : ℕ) → net (leadOf old (negate c)) ≡ net (leadOf old c)
 inverse-lead old c = ap net (lead-negate old c) ∙ net-negate (leadOf old c)
@@ -53,37 +53,37 @@ module _ {cs : List (List ℕ)} {row marks part partMarks older old new : List �
   -- Rule 7, by the select
 
   selects : (l c u : ℕ) → SideAt row marks l c u → Kernel old c 1 → JoinedBy new t l u
-  selects l c u s k = go (calm-or-stirred row older old (s .start) (s .at .start))
+  selects l c u s k = go (unchanged-or-changed row older old (s .start) (s .at .start))
     where
-      go : Calm row older old (s .start) ⊎ Stirred row older old (s .start) → JoinedBy new t l u
+      go : Unchanged row older old (s .start) ⊎ Changed row older old (s .start) → JoinedBy new t l u
       go (inl h) =
           joined-before (r .making) l u
           (row-before r (s .at) h .ites .selects l c u s (kernel-before older old c 1 (select-kept s h) (kept-true older old) k))
-      go (inr h) = r .here .ites .selects l c u (side-copied (r .marked) s (stirred-copied r h .1)) k
+      go (inr h) = r .here .ites .selects l c u (side-copied (r .marked) s (changed-copied r h .1)) k
 
-  -- The sides whose selects have one lead are all copied if one of them is stirred
+  -- The sides whose selects have one lead are all copied if one of them is changed
 
-  calm-or-with : {l c u e : ℕ} (i : IteAt row marks l c u e) → CalmIte older old i ⊎ StirredWith row older old (net (leadOf old c))
-  calm-or-with {c = c} i =
-      go (calm-or-stirred row older old (i .then-side .start) (i .then-side .at .start)) (calm-or-stirred row older old (i .else-side .start) (i .else-side .at .start))
+  unchanged-or-with : {l c u e : ℕ} (i : IteAt row marks l c u e) → UnchangedIte older old i ⊎ ChangedWith row older old (net (leadOf old c))
+  unchanged-or-with {c = c} i =
+      go (unchanged-or-changed row older old (i .then-side .start) (i .then-side .at .start)) (unchanged-or-changed row older old (i .else-side .start) (i .else-side .at .start))
     where
-      go : Calm row older old (i .then-side .start) ⊎ Stirred row older old (i .then-side .start)
-          → Calm row older old (i .else-side .start) ⊎ Stirred row older old (i .else-side .start) → CalmIte older old i ⊎ StirredWith row older old (net (leadOf old c))
+      go : Unchanged row older old (i .then-side .start) ⊎ Changed row older old (i .then-side .start)
+          → Unchanged row older old (i .else-side .start) ⊎ Changed row older old (i .else-side .start) → UnchangedIte older old i ⊎ ChangedWith row older old (net (leadOf old c))
       go (inl h) (inl k) = inl (record { thens = h; elses = k })
-      go (inr h) k = inr (record { clause = i .then-side .start; stirred = h; place = i .then-side .place; at = i .then-side .at; lead = select-lead old (i .then-side) })
+      go (inr h) k = inr (record { clause = i .then-side .start; changed = h; place = i .then-side .place; at = i .then-side .at; lead = select-lead old (i .then-side) })
       go (inl h) (inr k) =
           inr
           (record {
             clause = i .else-side .start;
-            stirred = k;
+            changed = k;
             place = i .else-side .place;
             at = i .else-side .at;
             lead = select-lead old (i .else-side) ∙ inverse-lead old c;
           })
 
-  module _ {w : ℕ} (some : w ≢ 0) (h : StirredWith row older old w) where
+  module _ {w : ℕ} (some : w ≢ 0) (h : ChangedWith row older old w) where
     side-in-part : {l c u : ℕ} → net (leadOf old c) ≡ w → SideAt row marks l c u → SideAt part partMarks l c u
-    side-in-part e s = side-copied (r .marked) s (active-copied r (s .start) (s .at .start) (shares (h .clause) (h .stirred) shared) .1)
+    side-in-part e s = side-copied (r .marked) s (active-copied r (s .start) (s .at .start) (shares (h .clause) (h .changed) shared) .1)
       where
         lead : net (leadAt row old (s .place)) ≡ w
         lead = select-lead old s ∙ e
@@ -106,9 +106,9 @@ module _ {cs : List (List ℕ)} {row marks part partMarks older old new : List �
         go (inr h) = joined-chain (r .making) l e u (selects l (negate c) e (i .else-side) h) (joined-back (r .making) u e (joined-old (r .making) u e k))
 
     thens : JoinedBy new t l u
-    thens = go (ℕ-discrete (net (leadOf old c)) 0) (calm-or-with i)
+    thens = go (ℕ-discrete (net (leadOf old c)) 0) (unchanged-or-with i)
       where
-        go : Dec (net (leadOf old c) ≡ 0) → CalmIte older old i ⊎ StirredWith row older old (net (leadOf old c)) → JoinedBy new t l u
+        go : Dec (net (leadOf old c) ≡ 0) → UnchangedIte older old i ⊎ ChangedWith row older old (net (leadOf old c)) → JoinedBy new t l u
         go (yes z) h = thens-constant z
         go (no n) (inr h) = r .here .ites .thens l c u e (ite-in-part n h refl i) k
         go (no n) (inl h) =
@@ -132,12 +132,12 @@ module _ {cs : List (List ℕ)} {row marks part partMarks older old new : List �
             (selects m (negate d) f (j .else-side) (lead-negate old d ∙ ap negate (sym cd) ∙ sym (lead-negate old c) ∙ h))
 
     outputs : JoinedBy new t l m
-    outputs = go (ℕ-discrete (net (leadOf old c)) 0) (calm-or-with i) (calm-or-with j)
+    outputs = go (ℕ-discrete (net (leadOf old c)) 0) (unchanged-or-with i) (unchanged-or-with j)
       where
-        by-part : {w : ℕ} → w ≢ 0 → StirredWith row older old w → net (leadOf old c) ≡ w → JoinedBy new t l m
+        by-part : {w : ℕ} → w ≢ 0 → ChangedWith row older old w → net (leadOf old c) ≡ w → JoinedBy new t l m
         by-part n h q = r .here .ites .outputs l c u e m d v f (ite-in-part n h q i) (ite-in-part n h (sym (ap net cd) ∙ q) j) cd uv ef
 
-        go : Dec (net (leadOf old c) ≡ 0) → CalmIte older old i ⊎ StirredWith row older old (net (leadOf old c)) → CalmIte older old j ⊎ StirredWith row older old (net (leadOf old d))
+        go : Dec (net (leadOf old c) ≡ 0) → UnchangedIte older old i ⊎ ChangedWith row older old (net (leadOf old c)) → UnchangedIte older old j ⊎ ChangedWith row older old (net (leadOf old d))
             → JoinedBy new t l m
         go (yes z) h k = outputs-constant z
         go (no n) (inr h) k = by-part n h refl

@@ -16,14 +16,14 @@ use Rattle.rules.specs.Answer.{leadOf}
 use Rattle.passes.specs.Making.{JoinedBy}
 use Rattle.passes.specs.Xors.{oddNets, packed, Digits, more, XorAt, restAt, keyAt, sumAt}
 use Rattle.passes.specs.RowJoined.{XorsJoined}
-use Rattle.passes.specs.Parts.{Stirred, Shares}
+use Rattle.passes.specs.Parts.{Changed, Shares}
 use Rattle.passes.specs.declared.tally.Tally.{Tally}
 use Rattle.passes.proofs.OddNets.{odd-digits, odd-leads, packed-unique}
 use Rattle.passes.proofs.JoinedBy.{joined-back, joined-chain, joined-same}
 use Rattle.passes.proofs.PartMarks.{across}
 use Rattle.passes.proofs.PartPlaces.{key-copied, sum-copied, xor-at-copied}
-use Rattle.passes.proofs.CalmClauses.{Calm, calm-or-stirred, rest-in, joined-before, key-before, sum-before}
-use Rattle.passes.proofs.PartRounds.{PartRound, Pair, calm, copied, apart, net-in, stirred-copied, row-before, pair-of}
+use Rattle.passes.proofs.UnchangedClauses.{Unchanged, unchanged-or-changed, rest-in, joined-before, key-before, sum-before}
+use Rattle.passes.proofs.PartRounds.{PartRound, Pair, unchanged, copied, apart, net-in, changed-copied, row-before, pair-of}
 
 -- a set that is not packed as 0 has a net
 some-net : (l : List ℕ) → Digits l → packed l ≢ 0 → (w : ℕ) × Mem w l × (w ≢ 0)
@@ -35,14 +35,14 @@ module _ {cs : List (List ℕ)} {row marks part partMarks older old new : List �
   -- Rule 5
 
   alone : (b p : ℕ) → XorAt row marks b p → keyAt old row b p < 65536 → JoinedBy new t (sumAt old row b p) (2 * keyAt old row b p)
-  alone b p x h = go (calm-or-stirred row older old b (x .place .start))
+  alone b p x h = go (unchanged-or-changed row older old b (x .place .start))
     where
-      go : Calm row older old b ⊎ Stirred row older old b → JoinedBy new t (sumAt old row b p) (2 * keyAt old row b p)
+      go : Unchanged row older old b ⊎ Changed row older old b → JoinedBy new t (sumAt old row b p) (2 * keyAt old row b p)
       go (inl c) =
           joined-same (r .making) (sum-before c p) (ap (λ (k : ℕ). 2 * k) (key-before c p))
           (joined-before (r .making) _ _ (row-before r (x .place) c .xors .alone b p x (subst⁻¹ (λ (k : ℕ). k < 65536) (key-before c p) h)))
       go (inr s) =
-          let f = stirred-copied r s in
+          let f = changed-copied r s in
           joined-same (r .making) (sum-copied (f .1) (x .place) old) (ap (λ (k : ℕ). 2 * k) (key-copied (f .1) (x .place) old))
           (r .here .xors .alone (f .0) (across b (f .0) p) (xor-at-copied (f .1) x) (subst⁻¹ (λ (k : ℕ). k < 65536) (key-copied (f .1) (x .place) old) h))
 
@@ -90,7 +90,7 @@ module _ {cs : List (List ℕ)} {row marks part partMarks older old new : List �
     sums = go (pair-of r b d (x .place .start) (y .place .start))
       where
         go : Pair row marks part partMarks older old b d → JoinedBy new t (sumAt old row b p) (sumAt old row d q)
-        go (calm c e) =
+        go (unchanged c e) =
             joined-same (r .making) (sum-before c p) (sum-before e q)
             (joined-before (r .making) _ _ (row-before r (x .place) c .xors .sums b p d q x y (key-before c p ∙ same ∙ sym (key-before e q))))
         go (copied c) =

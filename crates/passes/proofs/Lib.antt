@@ -28,7 +28,7 @@ pub mod WithoutGates
 pub mod RowsJoined
 pub mod PartMarks
 pub mod PartPlaces
-pub mod CalmClauses
+pub mod UnchangedClauses
 pub mod PartRounds
 pub mod ActiveAnds
 pub mod ActiveXors

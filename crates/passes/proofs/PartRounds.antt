@@ -19,10 +19,10 @@ use Rattle.passes.specs.Passing.{ClauseJoined}
 use Rattle.passes.specs.Xors.{LeadRow}
 use Rattle.passes.specs.Marked.{Marked}
 use Rattle.passes.specs.RowJoined.{RowJoined}
-use Rattle.passes.specs.Parts.{Ended, Copy, Moved, Stirred, Shares, Active, empty, stirred, shares, HoldsActive}
+use Rattle.passes.specs.Parts.{Ended, Copy, Moved, Changed, Shares, Active, empty, changed, shares, HoldsActive}
 use Rattle.passes.specs.declared.tally.Tally.{Tally}
 use Rattle.passes.proofs.PartPlaces.{clause-copied}
-use Rattle.passes.proofs.CalmClauses.{Calm, calm-or-stirred, kept-at, clause-calm}
+use Rattle.passes.proofs.UnchangedClauses.{Unchanged, unchanged-or-changed, kept-at, clause-unchanged}
 
 -- the round from the old leads has gone over the part, and the one before, if there was one, over all of the row
 pub record PartRound (cs : List (List ℕ)) (row marks part partMarks older old new : List ℕ) (t : Tally) : Type 0 where
@@ -45,7 +45,7 @@ pub record Both (row marks part partMarks : List ℕ) (b d : ℕ) : Type 0 where
 
 -- how the clauses at b and d stand in the round
 pub data Pair (row marks part partMarks older old : List ℕ) (b d : ℕ) : Type 0 where
-  calm : Calm row older old b → Calm row older old d → Pair row marks part partMarks older old b d
+  unchanged : Unchanged row older old b → Unchanged row older old d → Pair row marks part partMarks older old b d
   copied : Both row marks part partMarks b d → Pair row marks part partMarks older old b d
   apart : ¬ Shares row old b d → Pair row marks part partMarks older old b d
 
@@ -60,11 +60,11 @@ module _ {cs : List (List ℕ)} {row marks part partMarks older old new : List �
       go (inl c) = c
       go (inr n) = absurd (n a)
 
-  pub stirred-copied : {b : ℕ} → Stirred row older old b → (b′ : ℕ) × Copy row marks b part partMarks b′
-  stirred-copied {b} s = active-copied b (s .at .start) (stirred s)
+  pub changed-copied : {b : ℕ} → Changed row older old b → (b′ : ℕ) × Copy row marks b part partMarks b′
+  changed-copied {b} s = active-copied b (s .at .start) (changed s)
 
-  -- a calm clause with a literal: this is not the first round
-  pub row-before : {b p : ℕ} → LiteralAt row b p → Calm row older old b → RowJoined row marks older old (fresh 0)
+  -- a unchanged clause with a literal: this is not the first round
+  pub row-before : {b p : ℕ} → LiteralAt row b p → Unchanged row older old b → RowJoined row marks older old (fresh 0)
   row-before {b} {p} k c = go (r .before)
     where
       go : RowJoined row marks older old (fresh 0) ⊎ ((x : ℕ) → 0 < net x → net x ≤ length old → Moved older old x) → RowJoined row marks older old (fresh 0)
@@ -75,7 +75,7 @@ module _ {cs : List (List ℕ)} {row marks part partMarks older old new : List �
 
   -- two clauses
   pub pair-of : (b d : ℕ) → Starts row b → Starts row d → Pair row marks part partMarks older old b d
-  pair-of b d s u = go (calm-or-stirred row older old b s) (calm-or-stirred row older old d u) (r .holds b s) (r .holds d u)
+  pair-of b d s u = go (unchanged-or-changed row older old b s) (unchanged-or-changed row older old d u) (r .holds b s) (r .holds d u)
     where
       both : (b′ : ℕ) × Copy row marks b part partMarks b′ → (d′ : ℕ) × Copy row marks d part partMarks d′ → Pair row marks part partMarks older old b d
       both (b′, c) (d′, e) = copied (record { b′ = b′; d′ = d′; left = c; right = e })
@@ -83,24 +83,24 @@ module _ {cs : List (List ℕ)} {row marks part partMarks older old new : List �
       back : Shares row old b d → Shares row old d b
       back h = record { place = h .other; at = h .other-at; other = h .place; other-at = h .at; same = sym (h .same); variable = λ z. h .variable (h .same ∙ z) }
 
-      go : Calm row older old b ⊎ Stirred row older old b → Calm row older old d ⊎ Stirred row older old d
+      go : Unchanged row older old b ⊎ Changed row older old b → Unchanged row older old d ⊎ Changed row older old d
           → ((b′ : ℕ) × Copy row marks b part partMarks b′) ⊎ (¬ Active row older old b)
           → ((d′ : ℕ) × Copy row marks d part partMarks d′) ⊎ (¬ Active row older old d)
           → Pair row marks part partMarks older old b d
-      go (inl c) (inl e) h i = calm c e
-      go (inr c) e h (inl k) = both (stirred-copied c) k
+      go (inl c) (inl e) h i = unchanged c e
+      go (inr c) e h (inl k) = both (changed-copied c) k
       go (inr c) e h (inr n) = apart (λ k. n (shares b c (back k)))
-      go (inl c) (inr e) (inl k) i = both k (stirred-copied e)
+      go (inl c) (inr e) (inl k) i = both k (changed-copied e)
       go (inl c) (inr e) (inr n) i = apart (λ k. n (shares d e k))
 
   -- Rules 1 and 2
   pub clauses-joined : (b : ℕ) → Starts row b → ClauseJoined row marks old new t b
-  clauses-joined b s = go (ℕ-discrete (length (clauseAt row b)) 0) (calm-or-stirred row older old b s)
+  clauses-joined b s = go (ℕ-discrete (length (clauseAt row b)) 0) (unchanged-or-changed row older old b s)
     where
       by-copy : (b′ : ℕ) × Copy row marks b part partMarks b′ → ClauseJoined row marks old new t b
       by-copy (b′, c) = clause-copied c (r .marked) (r .here .clauses b′ (c .start′))
 
-      go : Dec (length (clauseAt row b) ≡ 0) → Calm row older old b ⊎ Stirred row older old b → ClauseJoined row marks old new t b
+      go : Dec (length (clauseAt row b) ≡ 0) → Unchanged row older old b ⊎ Changed row older old b → ClauseJoined row marks old new t b
       go (yes z) c = by-copy (active-copied b s (empty z))
-      go (no n) (inr c) = by-copy (stirred-copied c)
-      go (no n) (inl c) = clause-calm c (r .making) marks (row-before {p = b} (record { start = s; low = omega arith; high = omega arith }) c .clauses b s)
+      go (no n) (inr c) = by-copy (changed-copied c)
+      go (no n) (inl c) = clause-unchanged c (r .making) marks (row-before {p = b} (record { start = s; low = omega arith; high = omega arith }) c .clauses b s)

@@ -18,7 +18,7 @@ use Rattle.gates.proofs.Signs.{net-flip}
 use Rattle.rules.specs.Answer.{leadOf}
 use Rattle.passes.specs.Passing.{leadAt}
 use Rattle.passes.specs.Xors.{LeadRow}
-use Rattle.passes.specs.Parts.{Moved, Stirred, Shares, empty, stirred, shares}
+use Rattle.passes.specs.Parts.{Moved, Changed, Shares, empty, changed, shares}
 use Rattle.passes.specs.Taking.{netAt, Indexed, HasMark, Keeps, MarksMoved, Touched, SeenTouched, SeesNet, SeesBelow, TouchesMarked, MarksTouched, Still, MarksActive, Unseen}
 use Rattle.passes.proofs.Joining.{lead-constant, lead-inside}
 
@@ -166,13 +166,13 @@ module _ (codes older old : List ℕ) (nets : (q : ℕ) → net (getD codes q 0)
       rw (← s) (m w (omega (arith, nets q)) (λ e. h (sym (lead-inside older c n (omega (arith, nets q))) ∙ ap (flip (isInverse c)) e ∙ lead-inside old c n (nets q))))
 
   module _ (leads : LeadRow old) (first touched moved : List ℕ) (marks : MarksMoved older old first) (touches : TouchesMarked codes old first touched) (keeps : Keeps first moved) (shared : MarksTouched old touched moved) where
-    stirred-touched : (d q : ℕ) → Stirred codes older old d → LiteralAt codes d q → HasMark touched (net (leadAt codes old q))
-    stirred-touched d q s l = touches d (s .place) (s .at) (moved-variable (s .place) (s .moved)) (moved-marked first marks (s .place) (s .moved)) q (l .low) (l .high)
+    changed-touched : (d q : ℕ) → Changed codes older old d → LiteralAt codes d q → HasMark touched (net (leadAt codes old q))
+    changed-touched d q s l = touches d (s .place) (s .at) (moved-variable (s .place) (s .moved)) (moved-marked first marks (s .place) (s .moved)) q (l .low) (l .high)
 
     shares-variable : (b d : ℕ) (s : Shares codes old b d) → netAt codes (s .place) ≢ 0
     shares-variable b d s z = s .variable (omega (arith, leads .low (getD codes (s .place) 0)))
 
-    shares-marked : (b d : ℕ) → Stirred codes older old d → (s : Shares codes old b d) → HasMark moved (net (getD codes (s .place) 0))
+    shares-marked : (b d : ℕ) → Changed codes older old d → (s : Shares codes old b d) → HasMark moved (net (getD codes (s .place) 0))
     shares-marked b d t s =
         let c = getD codes (s .place) 0 in
         let w = net c - 1 in
@@ -180,9 +180,9 @@ module _ (codes older old : List ℕ) (nets : (q : ℕ) → net (getD codes q 0)
         let e : w + 1 ≡ net c = omega arith in
         let l : net (leadOf old c) ≡ net (getD old w 0) = net-lead old c n (nets (s .place)) in
         rw (← e) (shared w (omega (arith, nets (s .place)))
-        (record { variable = λ z. s .variable (l ∙ z); mark = subst (HasMark touched) (sym (s .same) ∙ l) (stirred-touched d (s .other) t (s .other-at)) }))
+        (record { variable = λ z. s .variable (l ∙ z); mark = subst (HasMark touched) (sym (s .same) ∙ l) (changed-touched d (s .other) t (s .other-at)) }))
 
     pub marks-active : MarksActive codes older old moved
     marks-active b s (empty e) = s .some e
-    marks-active b s (stirred t) = keeps (net (getD codes (t .place) 0)) (moved-marked first marks (t .place) (t .moved)) (s .none (t .place) (t .at) (moved-variable (t .place) (t .moved)))
+    marks-active b s (changed t) = keeps (net (getD codes (t .place) 0)) (moved-marked first marks (t .place) (t .moved)) (s .none (t .place) (t .at) (moved-variable (t .place) (t .moved)))
     marks-active b s (shares d t h) = shares-marked b d t h (s .none (h .place) (h .at) (shares-variable b d h))

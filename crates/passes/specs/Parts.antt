@@ -33,7 +33,7 @@ abbrev pub Moved : List ℕ → List ℕ → ℕ → Type 0
 Moved older old x = leadOf older x ≢ leadOf old x
 
 -- a lead of the clause at b has changed
-pub record Stirred (row older old : List ℕ) (b : ℕ) : Type 0 where
+pub record Changed (row older old : List ℕ) (b : ℕ) : Type 0 where
   pub place : ℕ
   pub at : LiteralAt row b place
   pub moved : Moved older old (getD row place 0)
@@ -50,8 +50,8 @@ pub record Shares (row old : List ℕ) (b d : ℕ) : Type 0 where
 -- the round has to go over the clause at b
 pub data Active (row older old : List ℕ) (b : ℕ) : Type 0 where
   empty : length (clauseAt row b) ≡ 0 → Active row older old b
-  stirred : Stirred row older old b → Active row older old b
-  shares : (d : ℕ) → Stirred row older old d → Shares row old b d → Active row older old b
+  changed : Changed row older old b → Active row older old b
+  shares : (d : ℕ) → Changed row older old d → Shares row old b d → Active row older old b
 
 -- every active clause is in the part
 abbrev pub HoldsActive : List ℕ → List ℕ → List ℕ → List ℕ → List ℕ → List ℕ → Type 0

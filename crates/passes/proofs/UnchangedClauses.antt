@@ -22,7 +22,7 @@ use Rattle.passes.specs.Matching.{HasLead, Alike}
 use Rattle.passes.specs.Xors.{packed, restAt, keyAt, sumAt}
 use Rattle.passes.specs.Marked.{Marked}
 use Rattle.passes.specs.RowJoined.{SideAt}
-use Rattle.passes.specs.Parts.{Moved, Stirred}
+use Rattle.passes.specs.Parts.{Moved, Changed}
 use Rattle.passes.specs.declared.tally.Tally.{Tally}
 use Rattle.passes.proofs.OddNets.{odd-nets-alike, odd-sign-alike}
 use Rattle.passes.proofs.Searches.{lead-false, lead-true, lead-negate}
@@ -49,20 +49,20 @@ abbrev pub Kept : List ℕ → List ℕ → ℕ → Type 0
 Kept older old x = leadOf older x ≡ leadOf old x
 
 -- no lead of the clause at b has changed
-pub record Calm (row older old : List ℕ) (b : ℕ) : Type 0 where
+pub record Unchanged (row older old : List ℕ) (b : ℕ) : Type 0 where
   pub kept : (x : ℕ) → Mem x (clauseAt row b) → Kept older old x
 
-pub calm-or-stirred : (row older old : List ℕ) (b : ℕ) → Starts row b → Calm row older old b ⊎ Stirred row older old b
-calm-or-stirred row older old b s =
-    ⊎-map (λ h. record { kept = h }) stirred
+pub unchanged-or-changed : (row older old : List ℕ) (b : ℕ) → Starts row b → Unchanged row older old b ⊎ Changed row older old b
+unchanged-or-changed row older old b s =
+    ⊎-map (λ h. record { kept = h }) changed
     (all-or-some {P = Kept older old} {Q = Moved older old} (λ x. moved x (ℕ-discrete (leadOf older x) (leadOf old x))) (clauseAt row b))
   where
     moved : (x : ℕ) → Dec (Kept older old x) → Kept older old x ⊎ Moved older old x
     moved x (yes e) = inl e
     moved x (no n) = inr n
 
-    stirred : (x : ℕ) × Mem x (clauseAt row b) × Moved older old x → Stirred row older old b
-    stirred (x, m, n) = let o = literal-of row b s x m in record { place = o .place; at = o .at; moved = subst⁻¹ (Moved older old) (o .is) n }
+    changed : (x : ℕ) × Mem x (clauseAt row b) × Moved older old x → Changed row older old b
+    changed (x, m, n) = let o = literal-of row b s x m in record { place = o .place; at = o .at; moved = subst⁻¹ (Moved older old) (o .is) n }
 
 module _ (older old : List ℕ) where
   pub kernel-before : (x y : ℕ) → Kept older old x → Kept older old y → Kernel old x y → Kernel older x y
@@ -93,29 +93,29 @@ pub joined-before : {cs : List (List ℕ)} {old new : List ℕ} {t : Tally} → 
 joined-before making x y (inl c) = absurd (false≢true c)
 joined-before making x y (inr k) = inr (making .still x y k)
 
-module _ {row older old : List ℕ} {b : ℕ} (calm : Calm row older old b) where
+module _ {row older old : List ℕ} {b : ℕ} (unchanged : Unchanged row older old b) where
   pub kept-at : {p : ℕ} → LiteralAt row b p → Kept older old (getD row p 0)
-  kept-at {p} k = calm .kept (getD row p 0) (literal-in row b p k)
+  kept-at {p} k = unchanged .kept (getD row p 0) (literal-in row b p k)
 
   -- Rules 1, 2 and 3
 
   module _ {cs : List (List ℕ)} {new : List ℕ} {t : Tally} (making : Making cs old new t) where
-    unit-calm : UnitJoined row older old (fresh 0) b → UnitJoined row old new t b
-    unit-calm u =
+    unit-unchanged : UnitJoined row older old (fresh 0) b → UnitJoined row old new t b
+    unit-unchanged u =
         record {
-          unit = λ k m h. joined-before making k 1 (u .unit k m (λ x i n. kernel-before older old x 0 (calm .kept x i) (kept-false older old) (h x i n)));
+          unit = λ k m h. joined-before making k 1 (u .unit k m (λ x i n. kernel-before older old x 0 (unchanged .kept x i) (kept-false older old) (h x i n)));
           empty-clause = λ z. joined-before making 1 0 (u .empty-clause z);
         }
 
-    pub clause-calm : (marks : List ℕ) → ClauseJoined row marks older old (fresh 0) b → ClauseJoined row marks old new t b
-    clause-calm marks j = (unit-calm (j .0), λ i. joined-before making _ _ (j .1 i))
+    pub clause-unchanged : (marks : List ℕ) → ClauseJoined row marks older old (fresh 0) b → ClauseJoined row marks old new t b
+    clause-unchanged marks j = (unit-unchanged (j .0), λ i. joined-before making _ _ (j .1 i))
 
-    pub and-calm : {p : ℕ} → AndJoined row older old (fresh 0) b p → AndJoined row old new t b p
-    and-calm {p} j =
+    pub and-unchanged : {p : ℕ} → AndJoined row older old (fresh 0) b p → AndJoined row old new t b p
+    and-unchanged {p} j =
         record {
           and-false = λ r i h. joined-before making _ 0 (j .and-false r i (kernel-before older old r 0 (kept i) (kept-false older old) h));
           and-inverses = λ r s i l h.
-              joined-before making _ 0 (j .and-inverses r s i l (kernel-before older old r (negate s) (kept i) (calm .kept (negate s) (l .inverse)) h));
+              joined-before making _ 0 (j .and-inverses r s i l (kernel-before older old r (negate s) (kept i) (unchanged .kept (negate s) (l .inverse)) h));
           and-input = λ r i h. joined-before making _ r (j .and-input r i (λ s l. inputs r s i l (h s l)));
         }
       where
@@ -123,7 +123,7 @@ module _ {row older old : List ℕ} {b : ℕ} (calm : Calm row older old b) wher
         In = Input (clauseAt row b) (getD row p 0)
 
         kept : {r : ℕ} → In r → Kept older old r
-        kept {r} i = kept-negate older old r (calm .kept (negate r) (i .inverse))
+        kept {r} i = kept-negate older old r (unchanged .kept (negate r) (i .inverse))
 
         inputs : (r s : ℕ) → In r → In s → Kernel old s 1 ⊎ Kernel old s r → Kernel older s 1 ⊎ Kernel older s r
         inputs r s i l = ⊎-map (kernel-before older old s 1 (kept l) (kept-true older old)) (kernel-before older old s r (kept l) (kept i))
@@ -144,7 +144,7 @@ module _ {row older old : List ℕ} {b : ℕ} (calm : Calm row older old b) wher
 
   module _ (p : ℕ) where
     rest-kept : (x : ℕ) → Mem x (restAt row b p) → Kept older old x
-    rest-kept x m = calm .kept x (rest-in row b p x m)
+    rest-kept x m = unchanged .kept x (rest-in row b p x m)
 
     pub key-before : keyAt older row b p ≡ keyAt old row b p
     unfolding keyAt
@@ -156,7 +156,7 @@ module _ {row older old : List ℕ} {b : ℕ} (calm : Calm row older old b) wher
 
 -- Rule 4
 
-pub alike-before : {row older old : List ℕ} {b p d q : ℕ} → Calm row older old b → LiteralAt row b p → Calm row older old d → LiteralAt row d q
+pub alike-before : {row older old : List ℕ} {b p d q : ℕ} → Unchanged row older old b → LiteralAt row b p → Unchanged row older old d → LiteralAt row d q
     → Alike row old p q → Alike row older p q
 alike-before c k e l a =
     record {
@@ -166,9 +166,9 @@ alike-before c k e l a =
 
 -- Rules 7 and 8
 
-module _ {row marks older old : List ℕ} {l c u : ℕ} (s : SideAt row marks l c u) (calm : Calm row older old (s .start)) where
+module _ {row marks older old : List ℕ} {l c u : ℕ} (s : SideAt row marks l c u) (unchanged : Unchanged row older old (s .start)) where
   pub select-kept : Kept older old c
-  select-kept = kept-negate older old c (subst (Kept older old) (s .select) (kept-at calm (s .at)))
+  select-kept = kept-negate older old c (subst (Kept older old) (s .select) (kept-at unchanged (s .at)))
 
   pub side-kept : {cs : List (List ℕ)} → Marked cs row marks → Kept older old u
-  side-kept marked = calm .kept u (side-in marked s)
+  side-kept marked = unchanged .kept u (side-in marked s)
