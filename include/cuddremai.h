@@ -54,7 +54,8 @@ uint32_t cuddremai_read(const uint8_t *text, size_t text_length, int32_t *row, s
 uint32_t cuddremai_print(uint32_t nets, uint32_t clauses, const int32_t *row, size_t row_length, uint8_t *text,
                          size_t text_length, size_t *written, size_t *place);
 
-/* Closes the list under a round limit: the lead of net v is entry v - 1 of the lead row. From V + 1 up all limits answer alike. */
+/* Closes the list under a round limit: the lead of net v is entry v - 1 of the lead row, and the first CUDDREMAI_WORK entries of
+ * the work row are left 0. From V + 1 up all limits answer alike. */
 uint32_t cuddremai_close(uint32_t nets, uint32_t clauses, const int32_t *row, size_t row_length, uint32_t limit,
                          uint32_t *leads, size_t leads_length, uint32_t *work, size_t work_length,
                          cuddremai_summary *summary, size_t *place);
