@@ -1,8 +1,8 @@
 /* Reads DIMACS text from standard input and prints its sheet, step by step: read, close and write.
  *
  *     rt staticlib cuddremai_c
- *     cc -Iinclude examples/c/sheet.c target/staticlib/libcuddremai_c.a -o sheet
- *     ./sheet < examples/two_ands.cnf
+ *     cc -Iinclude examples/c/sheet.c target/staticlib/libcuddremai_c.a -o target/sheet
+ *     target/sheet < examples/two_ands.cnf
  */
 
 #include <cuddremai.h>

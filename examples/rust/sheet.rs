@@ -1,8 +1,8 @@
 //! Reads DIMACS text from standard input and prints its sheet.
 //!
 //!     rt staticlib cuddremai_c
-//!     rustc -O examples/rust/sheet.rs -C link-arg=target/staticlib/libcuddremai_c.a -o sheet
-//!     ./sheet < examples/two_ands.cnf
+//!     rustc -O examples/rust/sheet.rs -C link-arg=target/staticlib/libcuddremai_c.a -o target/sheet
+//!     target/sheet < examples/two_ands.cnf
 
 #[allow(dead_code)]
 mod cuddremai;
