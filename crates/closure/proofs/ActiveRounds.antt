@@ -1,6 +1,7 @@
 -- A round over the active part of a row: what it asks, and what holds of the whole row afterwards.
 -- Assumes nothing.
 use mathlib.Core.Path.{_≡_, subst, subst⁻¹}
+use mathlib.Core.Logic.{_≢_}
 use mathlib.Core.List.{List}
 use Prim.Native.Nat.{ℕ, _≤_, _<_}
 use native.Mathlib.Omega.{arith}
@@ -41,7 +42,7 @@ found-nets {row} {marks} {v} found fits q = go (decLt q (length row)) (ℕ-discr
         let k = literal-start row q l n in
         fits-present fits (found .clause-is (startOf row q) (k .start)) (getD row q 0) (literal-in row (startOf row q) q k) .1
 
-module _ {row marks older old new : List ℕ} {groups : ℕ} (s : Starting row marks older old new groups) where
+module _ {row marks older old new : List ℕ} {rounds groups : ℕ} (s : Starting row marks older old new rounds groups) where
   -- the old leads are as the new ones are at first
   pub old-leads : LeadRow old
   old-leads = record { inverse = m .inverse; again = m .again; low = m .low }
@@ -51,6 +52,14 @@ module _ {row marks older old new : List ℕ} {groups : ℕ} (s : Starting row m
 
   pub row-nets : (q : ℕ) → net (getD row q 0) ≤ length old
   row-nets q = found-nets (s .found) (s .fits) q
+
+  -- the row is ready for the rules
+  pub row-ready : Ready row marks old new (fresh groups)
+  row-ready =
+      record { of = clausesIn row; marked = found-marked (s .found); fits = s .fits; making = s .making; leads = old-leads; nets = s .nets; entries = s .entries }
+
+  pub row-making : {new′ : List ℕ} {t : Tally} → Went row marks old new (fresh groups) new′ t → Making (clausesIn row) old new′ t
+  row-making w = w .making (clausesIn row) (found-marked (s .found)) (s .fits) (s .making)
 
   module _ {part partMarks : List ℕ} (p : Part row marks part partMarks) where
     marked-part : Marked (clausesIn row) part partMarks
@@ -65,8 +74,8 @@ module _ {row marks older old new : List ℕ} {groups : ℕ} (s : Starting row m
       pub part-making : Making (clausesIn row) old new′ t
       part-making = w .making (clausesIn row) marked-part (s .fits) (s .making)
 
-      pub part-joined : HoldsActive row marks older old part partMarks → RowJoined part partMarks old new′ t → RowJoined row marks old new′ t
-      part-joined h j = all-joined (found-marked (s .found)) (s .fits) part-making old-leads (s .nets) h (p .ended) (s .before) j
+      pub part-joined : rounds ≢ 0 → HoldsActive row marks older old part partMarks → RowJoined part partMarks old new′ t → RowJoined row marks old new′ t
+      part-joined n h j = all-joined (found-marked (s .found)) (s .fits) part-making old-leads (s .nets) h (p .ended) (s .before n) j
 
   pub round-rules : {new′ : List ℕ} {t : Tally} → Making (clausesIn row) old new′ t → RowJoined row marks old new′ t → Rules (clausesIn row) old new′ t
   round-rules m j = row-rules (s .found) (s .fits) old-leads (s .nets) m j

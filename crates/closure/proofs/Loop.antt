@@ -1,37 +1,32 @@
 -- The loop over the rounds: what holds between two of them, and how a round leads on.
 -- Assumes nothing.
 use mathlib.Core.Path.{_≡_, refl, sym, _∙_, ap, subst, subst⁻¹, subst₂}
-use mathlib.Core.Logic.{inl, inr}
+use mathlib.Core.Logic.{_≢_, inl, inr}
 use mathlib.Core.Bool.{true, false, cond, true≢false}
-use mathlib.Core.List.{List, _∷_}
-use Prim.Native.Nat.{ℕ, zero, suc, _+_, _*_, _-_, _≤_, _<_}
+use mathlib.Core.List.{List}
+use Prim.Native.Nat.{ℕ, _+_, _-_, _≤_, _<_}
 use native.Mathlib.Omega.{arith}
-use lib.ListN.{length, getD, replicate, length-replicate, getD-replicate}
+use lib.ListN.{length, replicate, length-replicate}
 use Rattle.clauses.specs.Limit.{maxNets, maxEntries}
-use Rattle.clauses.specs.Code.{net}
 use Rattle.clauses.specs.Clause.{clausesIn}
 use Rattle.clauses.specs.Listing.{Fits}
 use Rattle.gates.specs.Count.{netsOf}
 use Rattle.gates.specs.Found.{Found}
-use Rattle.gates.specs.Sign.{isInverse}
-use Rattle.gates.proofs.Signs.{net-flip}
-use Rattle.rules.specs.Answer.{leadOf, own, noLead}
+use Rattle.rules.specs.Answer.{own, noLead}
 use Rattle.rules.specs.Compute.{ended, closed}
-use Rattle.rules.proofs.Closing.{first-lead}
 use Rattle.passes.specs.Making.{Making, Later, fresh, Rules}
-use Rattle.passes.specs.Parts.{Moved}
 use Rattle.passes.specs.RowJoined.{RowJoined}
 use Rattle.passes.specs.declared.tally.Tally.{Tally}
 use Rattle.passes.proofs.RowsJoined.{row-later}
 use Rattle.closure.specs.declared.run.Progress.{Progress}
-use Rattle.closure.specs.Rounds.{Before, Starting, Followed}
+use Rattle.closure.specs.Rounds.{Starting, Followed}
 use Rattle.closure.proofs.ActiveRounds.{round-rules}
 use Rattle.closure.proofs.Running.{Reached, none-made, round-starts, none-left, round-settles, round-clashes, round-stops, round-made, still-is, moved-is, moved-joins}
 
 -- the leads after the rounds made so far, or how closing has ended
 pub data Between (row marks : List ℕ) (limit v : ℕ) (leads next older : List ℕ) (p : Progress) : Type 0 where
   going : p .more ≡ true → Reached v (clausesIn row) (p .rounds) leads next (p .groups) → p .rounds ≤ limit → length older ≡ length leads
-      → Before row marks older leads → Between row marks limit v leads next older p
+      → (p .rounds ≢ 0 → RowJoined row marks older leads (fresh 0)) → Between row marks limit v leads next older p
   over : p .more ≡ false → ended (p .verdict) (p .rounds) leads ≡ closed v (clausesIn row) limit → p .groups ≡ length (own v leads)
       → length leads ≡ v → length next ≡ v → length older ≡ v → Between row marks limit v leads next older p
 
@@ -45,34 +40,24 @@ module _ {row marks : List ℕ} {limit v : ℕ} {leads next older : List ℕ} {p
   is-over (going m r h s b) e = absurd (true≢false (sym m ∙ e))
   is-over (over m e g a b c) k = (e, g)
 
--- before the first round every net counts as changed
-pub all-moved : (v : ℕ) (older : List ℕ) → v ≤ maxNets → older ≡ replicate v noLead → (x : ℕ) → 0 < net x → net x ≤ v → Moved older (netsOf v) x
-unfolding leadOf
-all-moved v older few e x low high q = absurd (omega (arith, ap net (sym (first-lead v x)) ∙ ap net (sym q) ∙ net-flip (isInverse x) _ ∙ ap net (entry (net x) low high)))
-  where
-    entry : (n : ℕ) → 0 < n → n ≤ v → getD (0 ∷ older) n (2 * n) ≡ noLead
-    entry zero l h = absurd (omega arith)
-    entry (suc n) l h = ap (λ (o : List ℕ). getD o n (2 * suc n)) e ∙ getD-replicate {A = ℕ} v n noLead (2 * suc n) (omega arith)
-
-pub loop-begins : (row marks : List ℕ) (limit : ℕ) (leads next older : List ℕ) (p : Progress) → length leads ≤ maxNets → leads ≡ netsOf (length leads) → next ≡ leads
-    → older ≡ replicate (length leads) noLead → p .more ≡ true → p .rounds ≡ 0 → p .groups ≡ length leads → Between row marks limit (length leads) leads next older p
-loop-begins row marks limit leads next older p few first same e m z g =
+pub loop-begins : (row marks : List ℕ) (limit : ℕ) (leads next older : List ℕ) (p : Progress) → leads ≡ netsOf (length leads) → next ≡ leads
+    → length older ≡ length leads → p .more ≡ true → p .rounds ≡ 0 → p .groups ≡ length leads → Between row marks limit (length leads) leads next older p
+loop-begins row marks limit leads next older p first same size m z g =
     going m
     (subst₂ (λ (n k : ℕ). Reached (length leads) (clausesIn row) n leads next k) (sym z) (sym g)
     (subst₂ (λ (l o : List ℕ). Reached (length leads) (clausesIn row) 0 l o (length leads)) (sym first) (sym (same ∙ first)) (none-made (length leads) (clausesIn row))))
-    (omega arith) (ap length e ∙ length-replicate {A = ℕ} (length leads) noLead)
-    (inr (λ x low high. subst⁻¹ (λ (l : List ℕ). Moved older l x) first (all-moved (length leads) older few e x low high)))
+    (omega arith) size (λ n. absurd (n z))
 
 module _ {row marks : List ℕ} {limit v : ℕ} {leads next older : List ℕ} {p : Progress} (found : Found (clausesIn row) row marks) (fit : Fits v (clausesIn row))
     (few : v ≤ maxNets) (entries : length row ≤ maxEntries) (between : Between row marks limit v leads next older p) (more : p .more ≡ true) where
   abbrev cs : List (List ℕ)
   cs = clausesIn row
 
-  reached : Reached v cs (p .rounds) leads next (p .groups) × (p .rounds ≤ limit) × (length older ≡ length leads) × Before row marks older leads
+  reached : Reached v cs (p .rounds) leads next (p .groups) × (p .rounds ≤ limit) × (length older ≡ length leads) × (p .rounds ≢ 0 → RowJoined row marks older leads (fresh 0))
   reached = go between
     where
       go : Between row marks limit v leads next older p
-          → Reached v cs (p .rounds) leads next (p .groups) × (p .rounds ≤ limit) × (length older ≡ length leads) × Before row marks older leads
+          → Reached v cs (p .rounds) leads next (p .groups) × (p .rounds ≤ limit) × (length older ≡ length leads) × (p .rounds ≢ 0 → RowJoined row marks older leads (fresh 0))
       go (going m r h s b) = (r, h, s, b)
       go (over m e g a b c) = absurd (true≢false (sym more ∙ m))
 
@@ -80,7 +65,7 @@ module _ {row marks : List ℕ} {limit v : ℕ} {leads next older : List ℕ} {p
   few-made = reached .1
 
   -- the next round can be made
-  pub next-starts : Starting row marks older leads next (p .groups)
+  pub next-starts : Starting row marks older leads next (p .rounds) (p .groups)
   next-starts =
       record {
         found = found;
@@ -128,7 +113,7 @@ module _ {row marks : List ℕ} {limit v : ℕ} {leads next older : List ℕ} {p
       round-followed (Followed.made h l c e o) =
           let m = round-made v cs (p .rounds) leads next (p .groups) (reached .0) fit limit new t making rules c (moved-joins t h c) in
           going refl (subst⁻¹ (λ (k : List ℕ). Reached v cs (p .rounds + 1) k new (t .groups)) e m) (omega arith) (older-size ∙ sym new-size ∙ ap length (sym e))
-          (inl (subst₂ (λ (k j : List ℕ). RowJoined row marks k j (fresh 0)) (sym o) (sym e) (row-later row marks leads new t new (fresh 0) (later c) joined)))
+          (λ n. subst₂ (λ (k j : List ℕ). RowJoined row marks k j (fresh 0)) (sym o) (sym e) (row-later row marks leads new t new (fresh 0) (later c) joined))
 
   -- the rounds that may still be made become fewer
   pub fewer-left : {q : Progress} {t : Tally} {new leads′ older′ : List ℕ} → Followed limit p t leads new leads′ older′ q

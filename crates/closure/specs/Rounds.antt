@@ -1,31 +1,25 @@
 -- Rounds, one after the other: what holds before each of them, and how one leads to the next. Only inner contracts cite these.
 -- Assumes nothing.
 use mathlib.Core.Path.{_≡_}
-use mathlib.Core.Logic.{_⊎_}
+use mathlib.Core.Logic.{_≢_}
 use mathlib.Core.Bool.{Bool, true, false, not, _&&_}
 use mathlib.Core.List.{List}
 use Prim.Native.Nat.{ℕ, _+_, _≤_, _<_}
 use lib.Dec.{eqb}
 use lib.ListN.{length, replicate}
 use Rattle.clauses.specs.Limit.{maxNets, maxEntries}
-use Rattle.clauses.specs.Code.{net}
 use Rattle.clauses.specs.Clause.{clausesIn}
 use Rattle.clauses.specs.Listing.{Fits}
 use Rattle.gates.specs.Found.{Found}
 use Rattle.rules.specs.Answer.{noLead}
 use Rattle.rules.specs.declared.Verdict.the-variants.{Contradiction, Settled, Unfinished}
 use Rattle.passes.specs.Making.{Making, fresh}
-use Rattle.passes.specs.Parts.{Moved}
 use Rattle.passes.specs.RowJoined.{RowJoined}
 use Rattle.passes.specs.declared.tally.Tally.{Tally}
 use Rattle.closure.specs.declared.run.Progress.{Progress}
 
--- the round before has joined all that the older leads draw, or this is the first round and every net counts as changed
-abbrev pub Before : List ℕ → List ℕ → List ℕ → List ℕ → Type 0
-Before row marks older old = RowJoined row marks older old (fresh 0) ⊎ ((x : ℕ) → 0 < net x → net x ≤ length old → Moved older old x)
-
--- a round from the old leads can be made
-pub record Starting (row marks older old new : List ℕ) (groups : ℕ) : Type 0 where
+-- a round from the old leads can be made, after so many others
+pub record Starting (row marks older old new : List ℕ) (rounds groups : ℕ) : Type 0 where
   pub found : Found (clausesIn row) row marks
   pub fits : Fits (length old) (clausesIn row)
   pub nets : length old ≤ maxNets
@@ -33,7 +27,8 @@ pub record Starting (row marks older old new : List ℕ) (groups : ℕ) : Type 0
   pub size : length older ≡ length old
   pub making : Making (clausesIn row) old new (fresh groups)
   pub same : new ≡ old
-  pub before : Before row marks older old
+  -- the round before, if there was one, has joined all that the older leads draw
+  pub before : rounds ≢ 0 → RowJoined row marks older old (fresh 0)
 
 -- the round has joined nothing
 unfoldable pub isStill : Tally → Bool

@@ -61,7 +61,6 @@ fn close_codes(
     let mut starts = [0u32; 32768];
     let mut places = [0u32; 1025];
     let mut links = [0u32; 16384];
-    let mut moved = [0u8; 1025];
     let mut touched = [0u8; 2050];
     let mut seen = [0u8; 16384];
     let mut part = [0u32; 16384];
@@ -84,7 +83,6 @@ fn close_codes(
         leads,
         next,
         older,
-        &mut moved,
         &mut touched,
         &mut seen,
         &mut part,

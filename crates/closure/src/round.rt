@@ -10,7 +10,7 @@ use passes::parts::take_active;
 use passes::row::by_rules;
 use passes::tally::Tally;
 
-// The round from the old leads, of which the new ones are a copy, with so many groups: it goes over the active part of the row, where the older leads are those of the round before.
+// The round from the old leads, of which the new ones are a copy, with so many groups, after so many others: the first one goes over the row, a later one over its active part, where the older leads are those before the last round.
 pub fn round(
     codes: &[u32],
     marks: &[u8],
@@ -20,7 +20,6 @@ pub fn round(
     older: &[u32],
     old: &[u32],
     new: &mut [u32],
-    moved: &mut [u8],
     touched: &mut [u8],
     seen: &mut [u8],
     part: &mut [u32],
@@ -30,15 +29,36 @@ pub fn round(
     heads: &mut [u32],
     chain: &mut [u32],
     sides: &mut [u32],
+    rounds: u32,
     groups: u32,
 ) -> Tally
-    requires { ⌜ Starting (now codes) (now marks) (now older) (now old) (now new) groups ⌝ }
+    requires { ⌜ Starting (now codes) (now marks) (now older) (now old) (now new) rounds groups ⌝ }
     requires { ⌜ Indexed (now codes) (now starts) (now places) (now links) ⌝ }
-    requires { ⌜ PartRows (now moved) (now touched) (now seen) (now part) (now tags) ⌝ }
+    requires { ⌜ PartRows (now touched) (now seen) (now part) (now tags) ⌝ }
     requires { ⌜ Scratch (now keys) (now values) (now heads) (now chain) (now sides) ⌝ }
     ensures making { λ r. ⌜ Making (clausesIn (now (codes .entry))) (now (old .entry)) (now (new .exit)) r ⌝ }
     ensures joined { λ r. ⌜ RowJoined (now (codes .entry)) (now (marks .entry)) (now (old .entry)) (now (new .exit)) r ⌝ }
 {
+    let start = Tally {
+        groups: groups,
+        joins: 0,
+        clash: false,
+    };
+    if rounds == 0 {
+        return by_rules(
+            codes,
+            marks,
+            old,
+            new,
+            keys,
+            values,
+            heads,
+            chain,
+            sides,
+            touched,
+            start,
+        );
+    }
     let n = take_active(
         codes,
         marks,
@@ -47,17 +67,11 @@ pub fn round(
         links,
         older,
         old,
-        moved,
         touched,
         seen,
         part,
         tags,
     );
-    let start = Tally {
-        groups: groups,
-        joins: 0,
-        clash: false,
-    };
     by_rules(
         &part[..n],
         &tags[..n],

@@ -106,7 +106,6 @@ pub fn run(
     leads: &mut [u32],
     next: &mut [u32],
     older: &mut [u32],
-    moved: &mut [u8],
     touched: &mut [u8],
     seen: &mut [u8],
     part: &mut [u32],
@@ -122,12 +121,11 @@ pub fn run(
     requires { ⌜ (length (now leads) ≤ maxNets) × (length (now codes) ≤ maxEntries) ⌝ }
     requires { ⌜ (now leads ≡ netsOf (length (now leads))) × (now next ≡ now leads) × (length (now older) ≡ length (now leads)) ⌝ }
     requires { ⌜ Indexed (now codes) (now starts) (now places) (now links) ⌝ }
-    requires { ⌜ PartRows (now moved) (now touched) (now seen) (now part) (now tags) ⌝ }
+    requires { ⌜ PartRows (now touched) (now seen) (now part) (now tags) ⌝ }
     requires { ⌜ Scratch (now keys) (now values) (now heads) (now chain) (now sides) ⌝ }
     ensures { λ r. ⌜ ended (r .verdict) (r .rounds) (now (leads .exit)) ≡ closed (length (now (leads .entry))) (clausesIn (now (codes .entry))) limit ⌝ }
     ensures { λ r. ⌜ r .groups ≡ length (own (length (now (leads .entry))) (now (leads .exit))) ⌝ }
 {
-    fill(older, NO_LEAD);
     let mut s = Progress {
         verdict: Verdict::Unfinished,
         rounds: 0,
@@ -135,6 +133,7 @@ pub fn run(
         more: true,
     };
     while s.more {
+        let rounds = s.rounds;
         let groups = s.groups;
         let t = round(
             codes,
@@ -145,7 +144,6 @@ pub fn run(
             older,
             leads,
             next,
-            moved,
             touched,
             seen,
             part,
@@ -155,6 +153,7 @@ pub fn run(
             heads,
             chain,
             sides,
+            rounds,
             groups,
         );
         s = follow(limit, s, t, next, leads, older);

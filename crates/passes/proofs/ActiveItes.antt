@@ -1,7 +1,7 @@
 -- A round over a part of the row joins what rules 7 and 8 draw from all of it.
 -- Assumes nothing.
 use mathlib.Core.Path.{_≡_, refl, sym, _∙_, ap}
-use mathlib.Core.Logic.{_≢_, _⊎_, inl, inr}
+use mathlib.Core.Logic.{_≢_, _⊎_, inl, inr, ⊎-map}
 use mathlib.Core.List.{List}
 use Prim.Native.Nat.{ℕ}
 use native.Mathlib.Omega.{arith}
@@ -13,13 +13,13 @@ use Rattle.rules.specs.Answer.{leadOf}
 use Rattle.passes.specs.Making.{Kernel, JoinedBy}
 use Rattle.passes.specs.Passing.{leadAt}
 use Rattle.passes.specs.RowJoined.{SideAt, IteAt, ItesJoined}
-use Rattle.passes.specs.Parts.{Changed, Shares, shares}
+use Rattle.passes.specs.Parts.{Changed, Shares, HasSide, side}
 use Rattle.passes.specs.declared.tally.Tally.{Tally}
 use Rattle.passes.proofs.Searches.{lead-true, lead-negate}
 use Rattle.passes.proofs.JoinedBy.{joined-old, joined-back, joined-chain}
 use Rattle.passes.proofs.PartPlaces.{side-copied}
 use Rattle.passes.proofs.UnchangedClauses.{Unchanged, unchanged-or-changed, kernel-before, kept-true, joined-before, select-kept, side-kept}
-use Rattle.passes.proofs.PartRounds.{PartRound, active-copied, changed-copied, row-before}
+use Rattle.passes.proofs.PartRounds.{PartRound, active-copied, changed-copied}
 
 -- a changed clause with a lead of net w
 record ChangedWith (row older old : List ℕ) (w : ℕ) : Type 0 where
@@ -41,6 +41,9 @@ inverse-lead old c = ap net (lead-negate old c) ∙ net-negate (leadOf old c)
 select-lead : {row marks : List ℕ} (old : List ℕ) {l c u : ℕ} (s : SideAt row marks l c u) → net (leadAt row old (s .place)) ≡ net (leadOf old c)
 select-lead old {c = c} s = ap (λ (x : ℕ). net (leadOf old x)) (s .select) ∙ inverse-lead old c
 
+side-here : {row marks : List ℕ} {l c u : ℕ} (s : SideAt row marks l c u) → HasSide row marks (s .start)
+side-here s = record { place = s .place; at = s .at; marked = ⊎-map (λ h. h .0) (λ h. h .0) (s .marked) }
+
 -- a literal whose lead is a constant
 constant-lead : (old : List ℕ) (c : ℕ) → net (leadOf old c) ≡ 0 → Kernel old c 1 ⊎ Kernel old (negate c) 1
 constant-lead old c z = go (ℕ-discrete (leadOf old c) 0)
@@ -58,7 +61,7 @@ module _ {cs : List (List ℕ)} {row marks part partMarks older old new : List �
       go : Unchanged row older old (s .start) ⊎ Changed row older old (s .start) → JoinedBy new t l u
       go (inl h) =
           joined-before (r .making) l u
-          (row-before r (s .at) h .ites .selects l c u s (kernel-before older old c 1 (select-kept s h) (kept-true older old) k))
+          (r .before .ites .selects l c u s (kernel-before older old c 1 (select-kept s h) (kept-true older old) k))
       go (inr h) = r .here .ites .selects l c u (side-copied (r .marked) s (changed-copied r h .1)) k
 
   -- The sides whose selects have one lead are all copied if one of them is changed
@@ -83,7 +86,7 @@ module _ {cs : List (List ℕ)} {row marks part partMarks older old new : List �
 
   module _ {w : ℕ} (some : w ≢ 0) (h : ChangedWith row older old w) where
     side-in-part : {l c u : ℕ} → net (leadOf old c) ≡ w → SideAt row marks l c u → SideAt part partMarks l c u
-    side-in-part e s = side-copied (r .marked) s (active-copied r (s .start) (s .at .start) (shares (h .clause) (h .changed) shared) .1)
+    side-in-part e s = side-copied (r .marked) s (active-copied r (s .start) (s .at .start) (side (side-here s) (h .clause) (h .changed) shared) .1)
       where
         lead : net (leadAt row old (s .place)) ≡ w
         lead = select-lead old s ∙ e
@@ -113,7 +116,7 @@ module _ {cs : List (List ℕ)} {row marks part partMarks older old new : List �
         go (no n) (inr h) = r .here .ites .thens l c u e (ite-in-part n h refl i) k
         go (no n) (inl h) =
             joined-before (r .making) l u
-            (row-before r (i .then-side .at) (h .thens) .ites .thens l c u e i
+            (r .before .ites .thens l c u e i
             (kernel-before older old u e (side-kept (i .then-side) (h .thens) (r .marked)) (side-kept (i .else-side) (h .elses) (r .marked)) k))
 
   -- Rule 8
@@ -144,7 +147,7 @@ module _ {cs : List (List ℕ)} {row marks part partMarks older old new : List �
         go (no n) (inl h) (inr k) = by-part (λ z. n (ap net cd ∙ z)) k (ap net cd)
         go (no n) (inl h) (inl k) =
             joined-before (r .making) l m
-            (row-before r (i .then-side .at) (h .thens) .ites .outputs l c u e m d v f i j
+            (r .before .ites .outputs l c u e m d v f i j
             (kernel-before older old c d (select-kept (i .then-side) (h .thens)) (select-kept (j .then-side) (k .thens)) cd)
             (kernel-before older old u v (side-kept (i .then-side) (h .thens) (r .marked)) (side-kept (j .then-side) (k .thens) (r .marked)) uv)
             (kernel-before older old e f (side-kept (i .else-side) (h .elses) (r .marked)) (side-kept (j .else-side) (k .elses) (r .marked)) ef))

@@ -21,7 +21,7 @@ use Rattle.passes.proofs.ActiveItes.{ites-joined}
 module _ {cs : List (List ℕ)} {row marks part partMarks older old new : List ℕ} {t : Tally} (marked : Marked cs row marks) (fits : Fits (length old) cs)
     (making : Making cs old new t) (leads : LeadRow old) (nets : length old ≤ maxNets) (holds : HoldsActive row marks older old part partMarks)
     (ended : Ended part)
-    (before : RowJoined row marks older old (fresh 0) ⊎ ((x : ℕ) → 0 < net x → net x ≤ length old → Moved older old x))
+    (before : RowJoined row marks older old (fresh 0))
     (here : RowJoined part partMarks old new t) where
   round : PartRound cs row marks part partMarks older old new t
   round = record { marked = marked; fits = fits; making = making; leads = leads; nets = nets; holds = holds; ended = ended; before = before; here = here }

@@ -374,9 +374,3 @@ table-begin l z =
 
 pub table-size : {row marks old heads next : List ℕ} {m i : ℕ} → Table row marks old m heads next i → Table row marks old (length heads) heads next i
 table-size {row} {marks} {old} {heads} {next} {i = i} t = subst⁻¹ (λ (n : ℕ). Table row marks old n heads next i) (t .size) t
-
--- a row of zeros
-pub zeros : (n h : ℕ) → _≡_ {A = ℕ} (getD (replicate n 0) h 0) 0
-zeros zero h = refl
-zeros (suc n) zero = refl
-zeros (suc n) (suc h) = zeros n h

@@ -1,17 +1,19 @@
 -- A row to which a clause of another one is appended: its clauses are those that it had and the one behind them.
 -- Assumes nothing.
-use mathlib.Core.Path.{_≡_, refl, sym, _∙_, ap}
-use mathlib.Core.Logic.{_≢_, _⊎_, inl, inr, ⊎-elim}
+use mathlib.Core.Path.{_≡_, refl, sym, _∙_, ap, subst, subst⁻¹}
+use mathlib.Core.Logic.{_≢_, _⊎_, inl, inr, ⊎-elim, ⊎-map}
 use mathlib.Core.List.{List}
 use Prim.Native.Nat.{ℕ, zero, suc, _+_, _-_, _≤_, _<_}
 use native.Mathlib.Omega.{arith}
 use native.Mathlib.Decide.{decLt, ℕ-discrete}
-use lib.ListN.{length, getD, set, take}
+use lib.ListN.{length, getD, set, take, replicate}
 use lib.Seq.{getD-set-same, getD-set-other, getD-take, length-take-le}
 use Rattle.gates.specs.Found.{clauseAt, Starts}
 use Rattle.gates.proofs.Rows.{clause-goes-on, clause-stops, clause-ended, literal-some, starts-apart}
-use Rattle.passes.specs.Parts.{Ended, Copy, Part}
-use Rattle.passes.specs.Taking.{Laid, Taken}
+use Rattle.passes.specs.Parts.{Ended, Copy, Part, Active, HoldsActive}
+use Rattle.passes.specs.Taking.{HasMark, Keeps, markCount, Sees, Laid, Taken, Took}
+use Rattle.passes.proofs.Maps.{zeros}
+use Rattle.passes.proofs.MarkCounts.{count-none, count-fits}
 
 -- clauses are the same where their entries and the 0 behind them are
 module _ (p q : List ℕ) where
@@ -131,70 +133,121 @@ module _ (row : List ℕ) (b k : ℕ) (whole : k ≡ length (clauseAt row b) + 1
         go a t (yes l) = let f = o .from a (starts-old a l t) in (f .0, copy-kept (f .0) a (f .1))
         go a t (no n) = (b, rw (starts-new a t (omega arith)) (copy-put s))
 
--- The clauses gone through
+-- The clauses taken
 
--- those that start up to the ending of the clause at b
-starts-up-to : (row : List ℕ) (b d : ℕ) → Starts row d → d < b + length (clauseAt row b) + 1 → (d < b) ⊎ (d ≡ b)
-starts-up-to row b d s l = go (decLt d b) (ℕ-discrete d b)
+-- two clauses that have a place or an ending in common are one
+same-start : (codes : List ℕ) (b d q : ℕ) → Starts codes b → b ≤ q → q ≤ b + length (clauseAt codes b) → Starts codes d → d ≤ q → q ≤ d + length (clauseAt codes d) → d ≡ b
+same-start codes b d q s l h t m k = go (ℕ-discrete d b) (decLt d b)
   where
-    go : Dec (d < b) → Dec (d ≡ b) → (d < b) ⊎ (d ≡ b)
-    go (yes h) e = inl h
-    go (no n) (yes e) = inr e
-    go (no n) (no m) = absurd (omega (arith, starts-apart row b d s (omega arith)))
+    go : Dec (d ≡ b) → Dec (d < b) → d ≡ b
+    go (yes e) c = e
+    go (no n) (yes c) = absurd (omega (arith, starts-apart codes d b s c))
+    go (no n) (no c) = absurd (omega (arith, starts-apart codes b d t (omega arith)))
 
-module _ (codes marks : List ℕ) (L : ℕ → Type 0) where
-  pub taken-none : (part tags : List ℕ) → Taken codes marks L part tags 0 0
-  taken-none part tags =
+-- a clause that is seen already
+pub took-seen : (codes : List ℕ) (b : ℕ) (seen : List ℕ) → HasMark seen b → Took codes b seen seen
+took-seen codes b seen m = record { keeps = λ w h. h; here = m; only = λ d s h. inr h }
+
+module _ (codes marks : List ℕ) where
+  pub taken-none : (m : ℕ) (seen part tags : List ℕ) → seen ≡ replicate m 0 → Taken codes marks seen part tags 0
+  taken-none m seen part tags e =
       record {
-        few = omega arith;
+        count = sym (ap markCount e ∙ count-none m);
+        whole = λ d q s l h k. absurd (k (unmarked q));
         behind = inl refl;
         is-part = record { size = refl; ended = λ b s. absurd (omega (arith, s .inside)); from = λ b s. absurd (omega (arith, s .inside)) };
-        all = λ d s h. absurd (omega arith);
+        all = λ d s k. absurd (k (unmarked d));
       }
+    where
+      unmarked : (q : ℕ) → getD seen q 0 ≡ 0
+      unmarked q = ap (λ (l : List ℕ). getD l q 0) e ∙ zeros m q
 
-  module _ (part tags : List ℕ) (n b : ℕ) (t : Taken codes marks L part tags n b) (e : ℕ) (end : e ≡ b + length (clauseAt codes b)) where
-    -- the clause at b is left out
-    pub taken-left : L b → Taken codes marks L part tags n (e + 1)
-    taken-left h = record { few = omega (arith, t .few); behind = t .behind; is-part = t .is-part; all = λ d s l. ⊎-elim (t .all d s) (λ q. inr (rw q h)) (starts-up-to codes b d s (omega arith)) }
+  module _ (seen part tags : List ℕ) (n b : ℕ) (t : Taken codes marks seen part tags n) (s : Starts codes b) (k : ℕ) (whole : k ≡ length (clauseAt codes b) + 1) where
+    -- a clause that is not seen is seen nowhere
+    pub unseen : getD seen b 0 ≡ 0 → (i : ℕ) → i < k → getD seen (b + i) 0 ≡ 0
+    unseen z i h = go (ℕ-discrete (getD seen (b + i) 0) 0)
+      where
+        go : Dec (getD seen (b + i) 0 ≡ 0) → getD seen (b + i) 0 ≡ 0
+        go (yes e) = e
+        go (no m) = absurd (t .whole b (b + i) s (omega arith) (omega arith) m z)
 
-    -- .. is copied
-    module _ (part′ tags′ : List ℕ) (k : ℕ) (whole : k ≡ length (clauseAt codes b) + 1) (room : n + k ≤ length part) (tag-room : n + k ≤ length tags) (size : length part′ ≡ length part) (tag-size : length tags′ ≡ length tags)
-        (laid : Laid codes b k part n part′) (tag-laid : Laid marks b k tags n tags′) where
-      p-size : length (take n part) ≡ n
-      p-size = length-take-le n part (omega arith)
-
-      closed : (length (take n part) ≡ 0) ⊎ (getD (take n part) (length (take n part) - 1) 0 ≡ 0)
-      closed = go (ℕ-discrete n 0) (t .behind)
+    module _ (seen′ : List ℕ) (sees : Sees seen b k seen′) where
+      -- a place is one of the clause's, or is seen as it was
+      place-cases : (q : ℕ) → HasMark seen′ q → ((b ≤ q) × (q ≤ b + length (clauseAt codes b))) ⊎ HasMark seen q
+      place-cases q m = go (decLt q b) (decLt q (b + k))
         where
-          go : Dec (n ≡ 0) → (n ≡ 0) ⊎ (getD part (n - 1) 0 ≡ 0) → (length (take n part) ≡ 0) ⊎ (getD (take n part) (length (take n part) - 1) 0 ≡ 0)
-          go (yes z) c = inl (p-size ∙ z)
-          go (no z) (inl y) = inl (p-size ∙ y)
-          go (no z) (inr y) = inr (ap (λ (m : ℕ). getD (take n part) (m - 1) 0) p-size ∙ getD-take n part (n - 1) 0 (omega arith) ∙ y)
+          go : Dec (q < b) → Dec (q < b + k) → ((b ≤ q) × (q ≤ b + length (clauseAt codes b))) ⊎ HasMark seen q
+          go (yes l) d = inr (λ e. m (sees .others q (inl l) ∙ e))
+          go (no l) (yes d) = inl (omega arith, omega arith)
+          go (no l) (no d) = inr (λ e. m (sees .others q (inr (omega arith)) ∙ e))
 
-      codes-behind : Behind codes b k (take n part) (take (n + k) part′)
-      codes-behind = laid-behind codes b part n k part′ room size laid
+      first-seen : HasMark seen′ b
+      first-seen = let e : b + 0 ≡ b = omega arith in subst (HasMark seen′) e (sees .marked 0 (omega arith))
 
-      marks-behind : Behind marks b k (take n tags) (take (n + k) tags′)
-      marks-behind = laid-behind marks b tags n k tags′ tag-room tag-size tag-laid
-
-      pub taken-copied : Starts codes b → Taken codes marks L part′ tags′ (n + k) (e + 1)
-      taken-copied s =
-          record {
-            few = omega (arith, t .few);
-            behind = inr (ap (λ (i : ℕ). getD part′ i 0) last ∙ laid .laid (length (clauseAt codes b)) (omega arith) ∙ clause-ended codes b);
-            is-part = part-put codes b k whole (take n part) (take (n + k) part′) codes-behind ended closed marks (take n tags) (take (n + k) tags′) marks-behind (t .is-part .size) s (t .is-part);
-            all = λ d o l. ⊎-elim (λ h. kept d (t .all d o h)) (λ q. inl (length (take n part), rw q here)) (starts-up-to codes b d o (omega arith));
-          }
+      seen-kept : Keeps seen seen′
+      seen-kept q m = go (decLt q b) (decLt q (b + k))
         where
-          ended : Ended (take n part)
-          ended = t .is-part .ended
+          go : Dec (q < b) → Dec (q < b + k) → HasMark seen′ q
+          go (yes l) d = λ e. m (sym (sees .others q (inl l)) ∙ e)
+          go (no l) (yes d) = let e : b + (q - b) ≡ q = omega arith in subst (HasMark seen′) e (sees .marked (q - b) (omega arith))
+          go (no l) (no d) = λ e. m (sym (sees .others q (inr (omega arith))) ∙ e)
 
-          last : n + k - 1 ≡ n + length (clauseAt codes b)
-          last = omega arith
+      start-cases : (d : ℕ) → Starts codes d → HasMark seen′ d → (d ≡ b) ⊎ HasMark seen d
+      start-cases d o m = ⊎-map (λ (l, h). same-start codes b d d s l h o (omega arith) (omega arith)) (λ x. x) (place-cases d m)
 
-          here : Copy codes marks b (take (n + k) part′) (take (n + k) tags′) (length (take n part))
-          here = copy-put codes b k whole (take n part) (take (n + k) part′) codes-behind ended closed marks (take n tags) (take (n + k) tags′) marks-behind (t .is-part .size) s
+      pub took-clause : Took codes b seen seen′
+      took-clause = record { keeps = seen-kept; here = first-seen; only = start-cases }
 
-          kept : (d : ℕ) → ((a : ℕ) × Copy codes marks d (take n part) (take n tags) a) ⊎ L d → ((a : ℕ) × Copy codes marks d (take (n + k) part′) (take (n + k) tags′) a) ⊎ L d
-          kept d (inl f) = inl (f .0, copy-kept codes b k whole (take n part) (take (n + k) part′) codes-behind ended closed marks (take n tags) (take (n + k) tags′) marks-behind (t .is-part .size) d (f .0) (f .1))
-          kept d (inr h) = inr h
+      pub seen-room : n + k ≤ length seen′
+      seen-room = omega (arith, t .count, sees .count, count-fits seen′)
+
+      -- .. and is copied
+      module _ (part′ tags′ : List ℕ) (room : n + k ≤ length part) (tag-room : n + k ≤ length tags) (size : length part′ ≡ length part) (tag-size : length tags′ ≡ length tags)
+          (laid : Laid codes b k part n part′) (tag-laid : Laid marks b k tags n tags′) where
+        p-size : length (take n part) ≡ n
+        p-size = length-take-le n part (omega arith)
+
+        closed : (length (take n part) ≡ 0) ⊎ (getD (take n part) (length (take n part) - 1) 0 ≡ 0)
+        closed = go (ℕ-discrete n 0) (t .behind)
+          where
+            go : Dec (n ≡ 0) → (n ≡ 0) ⊎ (getD part (n - 1) 0 ≡ 0) → (length (take n part) ≡ 0) ⊎ (getD (take n part) (length (take n part) - 1) 0 ≡ 0)
+            go (yes z) c = inl (p-size ∙ z)
+            go (no z) (inl y) = inl (p-size ∙ y)
+            go (no z) (inr y) = inr (ap (λ (m : ℕ). getD (take n part) (m - 1) 0) p-size ∙ getD-take n part (n - 1) 0 (omega arith) ∙ y)
+
+        codes-behind : Behind codes b k (take n part) (take (n + k) part′)
+        codes-behind = laid-behind codes b part n k part′ room size laid
+
+        marks-behind : Behind marks b k (take n tags) (take (n + k) tags′)
+        marks-behind = laid-behind marks b tags n k tags′ tag-room tag-size tag-laid
+
+        pub taken-copied : Taken codes marks seen′ part′ tags′ (n + k)
+        taken-copied =
+            record {
+              count = omega (arith, t .count, sees .count);
+              whole = λ d q o l h m. ⊎-elim (λ (x, y). subst⁻¹ (HasMark seen′) (same-start codes b d q s x y o l h) first-seen) (λ x. seen-kept d (t .whole d q o l h x)) (place-cases q m);
+              behind = inr (ap (λ (i : ℕ). getD part′ i 0) last ∙ laid .laid (length (clauseAt codes b)) (omega arith) ∙ clause-ended codes b);
+              is-part = part-put codes b k whole (take n part) (take (n + k) part′) codes-behind ended closed marks (take n tags) (take (n + k) tags′) marks-behind (t .is-part .size) s (t .is-part);
+              all = λ d o m. ⊎-elim (λ q. (length (take n part), subst⁻¹ (λ (x : ℕ). Copy codes marks x (take (n + k) part′) (take (n + k) tags′) (length (take n part))) q here)) (λ x. kept d (t .all d o x)) (start-cases d o m);
+            }
+          where
+            ended : Ended (take n part)
+            ended = t .is-part .ended
+
+            last : n + k - 1 ≡ n + length (clauseAt codes b)
+            last = omega arith
+
+            here : Copy codes marks b (take (n + k) part′) (take (n + k) tags′) (length (take n part))
+            here = copy-put codes b k whole (take n part) (take (n + k) part′) codes-behind ended closed marks (take n tags) (take (n + k) tags′) marks-behind (t .is-part .size) s
+
+            kept : (d : ℕ) → (a : ℕ) × Copy codes marks d (take n part) (take n tags) a → (a : ℕ) × Copy codes marks d (take (n + k) part′) (take (n + k) tags′) a
+            kept d f = (f .0, copy-kept codes b k whole (take n part) (take (n + k) part′) codes-behind ended closed marks (take n tags) (take (n + k) tags′) marks-behind (t .is-part .size) d (f .0) (f .1))
+
+-- all active clauses are taken if they are seen
+pub holds-active : (codes marks seen part tags older old : List ℕ) (n : ℕ) → Taken codes marks seen part tags n → ((b : ℕ) → Active codes marks older old b → HasMark seen b)
+    → HoldsActive codes marks older old (take n part) (take n tags)
+holds-active codes marks seen part tags older old n t active b s = go (ℕ-discrete (getD seen b 0) 0)
+  where
+    go : Dec (getD seen b 0 ≡ 0) → ((b′ : ℕ) × Copy codes marks b (take n part) (take n tags) b′) ⊎ (¬ Active codes marks older old b)
+    go (yes z) = inr (λ a. active b a z)
+    go (no m) = inl (t .all b s m)

@@ -34,6 +34,7 @@ pub mod ActiveAnds
 pub mod ActiveXors
 pub mod ActiveItes
 pub mod ActiveParts
+pub mod MarkCounts
 pub mod Taking
 pub mod Appending
 pub mod RowRules

@@ -316,3 +316,33 @@ unfolding packed
 packed-few [] d h = inl refl
 packed-few (x ∷ []) (more p s d) h = inr (x, p, refl)
 packed-few (x ∷ y ∷ l) (more p s (more q t d)) h = absurd (omega arith)
+
+-- two different nets of a set
+pub record TwoNets (l : List ℕ) : Type 0 where
+  pub one : ℕ
+  pub other : ℕ
+  pub one-in : Mem one l
+  pub other-in : Mem other l
+  pub one-some : one ≢ 0
+  pub other-some : other ≢ 0
+  pub apart : one ≢ other
+
+-- .. if it is not packed as a small number
+pub odd-two : (f : ℕ → ℕ) (xs : List ℕ) → Digits (oddNets f xs) → (packed (oddNets f xs) < 65536) ⊎ TwoNets (oddNets f xs)
+unfolding packed
+odd-two f xs digits = go (oddNets f xs) digits (odd-ascends f xs)
+  where
+    go : (l : List ℕ) → Digits l → Ascending 0 l → (packed l < 65536) ⊎ TwoNets l
+    go [] d a = inl (omega arith)
+    go (x ∷ []) (more p s d) a = inl (omega arith)
+    go (x ∷ y ∷ l) d (above h (above k a)) =
+        inr
+        (record {
+          one = x;
+          other = y;
+          one-in = in-first;
+          other-in = List·Memᴰ·tail in-first;
+          one-some = λ e. omega arith;
+          other-some = λ e. omega arith;
+          apart = λ e. omega arith;
+        })

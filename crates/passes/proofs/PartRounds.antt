@@ -19,12 +19,12 @@ use Rattle.passes.specs.Passing.{ClauseJoined}
 use Rattle.passes.specs.Xors.{LeadRow}
 use Rattle.passes.specs.Marked.{Marked}
 use Rattle.passes.specs.RowJoined.{RowJoined}
-use Rattle.passes.specs.Parts.{Ended, Copy, Moved, Changed, Shares, Active, empty, changed, shares, HoldsActive}
+use Rattle.passes.specs.Parts.{Ended, Copy, Changed, Shares, SharesTwo, Active, changed, two, HoldsActive}
 use Rattle.passes.specs.declared.tally.Tally.{Tally}
 use Rattle.passes.proofs.PartPlaces.{clause-copied}
 use Rattle.passes.proofs.UnchangedClauses.{Unchanged, unchanged-or-changed, kept-at, clause-unchanged}
 
--- the round from the old leads has gone over the part, and the one before, if there was one, over all of the row
+-- the round from the old leads has gone over the part, and the one before has joined what all of the row draws
 pub record PartRound (cs : List (List ℕ)) (row marks part partMarks older old new : List ℕ) (t : Tally) : Type 0 where
   pub marked : Marked cs row marks
   pub fits : Fits (length old) cs
@@ -33,7 +33,7 @@ pub record PartRound (cs : List (List ℕ)) (row marks part partMarks older old 
   pub nets : length old ≤ maxNets
   pub holds : HoldsActive row marks older old part partMarks
   pub ended : Ended part
-  pub before : RowJoined row marks older old (fresh 0) ⊎ ((x : ℕ) → 0 < net x → net x ≤ length old → Moved older old x)
+  pub before : RowJoined row marks older old (fresh 0)
   pub here : RowJoined part partMarks old new t
 
 -- the clauses at b and d are copied
@@ -47,31 +47,21 @@ pub record Both (row marks part partMarks : List ℕ) (b d : ℕ) : Type 0 where
 pub data Pair (row marks part partMarks older old : List ℕ) (b d : ℕ) : Type 0 where
   unchanged : Unchanged row older old b → Unchanged row older old d → Pair row marks part partMarks older old b d
   copied : Both row marks part partMarks b d → Pair row marks part partMarks older old b d
-  apart : ¬ Shares row old b d → Pair row marks part partMarks older old b d
+  apart : ¬ SharesTwo row old b d → Pair row marks part partMarks older old b d
 
 module _ {cs : List (List ℕ)} {row marks part partMarks older old new : List ℕ} {t : Tally} (r : PartRound cs row marks part partMarks older old new t) where
   pub net-in : {b : ℕ} → Starts row b → (x : ℕ) → Mem x (clauseAt row b) → (1 ≤ net x) × (net x ≤ length old)
   net-in {b} s x m = fits-present (r .fits) (r .marked .clause-is b s) x m
 
-  pub active-copied : (b : ℕ) → Starts row b → Active row older old b → (b′ : ℕ) × Copy row marks b part partMarks b′
+  pub active-copied : (b : ℕ) → Starts row b → Active row marks older old b → (b′ : ℕ) × Copy row marks b part partMarks b′
   active-copied b s a = go (r .holds b s)
     where
-      go : ((b′ : ℕ) × Copy row marks b part partMarks b′) ⊎ (¬ Active row older old b) → (b′ : ℕ) × Copy row marks b part partMarks b′
+      go : ((b′ : ℕ) × Copy row marks b part partMarks b′) ⊎ (¬ Active row marks older old b) → (b′ : ℕ) × Copy row marks b part partMarks b′
       go (inl c) = c
       go (inr n) = absurd (n a)
 
   pub changed-copied : {b : ℕ} → Changed row older old b → (b′ : ℕ) × Copy row marks b part partMarks b′
   changed-copied {b} s = active-copied b (s .at .start) (changed s)
-
-  -- a unchanged clause with a literal: this is not the first round
-  pub row-before : {b p : ℕ} → LiteralAt row b p → Unchanged row older old b → RowJoined row marks older old (fresh 0)
-  row-before {b} {p} k c = go (r .before)
-    where
-      go : RowJoined row marks older old (fresh 0) ⊎ ((x : ℕ) → 0 < net x → net x ≤ length old → Moved older old x) → RowJoined row marks older old (fresh 0)
-      go (inl j) = j
-      go (inr all) =
-          let n = net-in (k .start) (getD row p 0) (literal-in row b p k) in
-          absurd (all (getD row p 0) (omega (arith, n .0)) (n .1) (kept-at c k))
 
   -- two clauses
   pub pair-of : (b d : ℕ) → Starts row b → Starts row d → Pair row marks part partMarks older old b d
@@ -80,27 +70,26 @@ module _ {cs : List (List ℕ)} {row marks part partMarks older old new : List �
       both : (b′ : ℕ) × Copy row marks b part partMarks b′ → (d′ : ℕ) × Copy row marks d part partMarks d′ → Pair row marks part partMarks older old b d
       both (b′, c) (d′, e) = copied (record { b′ = b′; d′ = d′; left = c; right = e })
 
-      back : Shares row old b d → Shares row old d b
-      back h = record { place = h .other; at = h .other-at; other = h .place; other-at = h .at; same = sym (h .same); variable = λ z. h .variable (h .same ∙ z) }
+      turned : Shares row old b d → Shares row old d b
+      turned h = record { place = h .other; at = h .other-at; other = h .place; other-at = h .at; same = sym (h .same); variable = λ z. h .variable (h .same ∙ z) }
+
+      back : SharesTwo row old b d → SharesTwo row old d b
+      back h = record { first = turned (h .first); second = turned (h .second); apart = λ e. h .apart (h .first .same ∙ e ∙ sym (h .second .same)) }
 
       go : Unchanged row older old b ⊎ Changed row older old b → Unchanged row older old d ⊎ Changed row older old d
-          → ((b′ : ℕ) × Copy row marks b part partMarks b′) ⊎ (¬ Active row older old b)
-          → ((d′ : ℕ) × Copy row marks d part partMarks d′) ⊎ (¬ Active row older old d)
+          → ((b′ : ℕ) × Copy row marks b part partMarks b′) ⊎ (¬ Active row marks older old b)
+          → ((d′ : ℕ) × Copy row marks d part partMarks d′) ⊎ (¬ Active row marks older old d)
           → Pair row marks part partMarks older old b d
       go (inl c) (inl e) h i = unchanged c e
       go (inr c) e h (inl k) = both (changed-copied c) k
-      go (inr c) e h (inr n) = apart (λ k. n (shares b c (back k)))
+      go (inr c) e h (inr n) = apart (λ k. n (two b c (back k)))
       go (inl c) (inr e) (inl k) i = both k (changed-copied e)
-      go (inl c) (inr e) (inr n) i = apart (λ k. n (shares d e k))
+      go (inl c) (inr e) (inr n) i = apart (λ k. n (two d e k))
 
   -- Rules 1 and 2
   pub clauses-joined : (b : ℕ) → Starts row b → ClauseJoined row marks old new t b
-  clauses-joined b s = go (ℕ-discrete (length (clauseAt row b)) 0) (unchanged-or-changed row older old b s)
+  clauses-joined b s = go (unchanged-or-changed row older old b s)
     where
-      by-copy : (b′ : ℕ) × Copy row marks b part partMarks b′ → ClauseJoined row marks old new t b
-      by-copy (b′, c) = clause-copied c (r .marked) (r .here .clauses b′ (c .start′))
-
-      go : Dec (length (clauseAt row b) ≡ 0) → Unchanged row older old b ⊎ Changed row older old b → ClauseJoined row marks old new t b
-      go (yes z) c = by-copy (active-copied b s (empty z))
-      go (no n) (inr c) = by-copy (changed-copied c)
-      go (no n) (inl c) = clause-unchanged c (r .making) marks (row-before {p = b} (record { start = s; low = omega arith; high = omega arith }) c .clauses b s)
+      go : Unchanged row older old b ⊎ Changed row older old b → ClauseJoined row marks old new t b
+      go (inr h) = let c = changed-copied h in clause-copied (c .1) (r .marked) (r .here .clauses (c .0) (c .1 .start′))
+      go (inl h) = clause-unchanged h (r .making) marks (r .before .clauses b s)

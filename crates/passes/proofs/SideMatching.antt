@@ -22,6 +22,7 @@ use Rattle.passes.specs.RowJoined.{ItesJoined}
 use Rattle.passes.specs.Joining.{joinState}
 use Rattle.passes.specs.declared.tally.Tally.{Tally}
 use Rattle.passes.specs.Sides.{sideCount, selectAt, outputAt, thenAt, Sides, ListsMarked, Pair, Alike, isAlike, isHeld, Ready, Step, BySelect, ByMates, HasLater, OneOutput, Matched, Slotted, Served, Matching, SideDone, isPair, isSame, Chained, buckets, bucketOf, pairKey, alikeKey, keyOf}
+use Rattle.passes.proofs.Maps.{zeros}
 use Rattle.passes.proofs.Joining.{lead-constant}
 use Rattle.passes.proofs.JoinedBy.{joined-sym, joined-trans}
 use Rattle.passes.proofs.SidePairs.{ite-pair, gate-marked, is-pair, pair-is, is-alike, alike-is}
@@ -124,13 +125,8 @@ pub slotted-none : (sides old slots : List ℕ) → slots ≡ replicate (2 * max
 slotted-none sides old slots e =
     record {
       size = ap length e ∙ length-replicate {A = ℕ} (2 * maxNets + 2) 0;
-      held = λ s k h. absurd (omega (arith, sym (zero-at (2 * maxNets + 2) s) ∙ ap (λ (l : List ℕ). getD l s 0) (sym e) ∙ h));
+      held = λ s k h. absurd (omega (arith, sym (zeros (2 * maxNets + 2) s) ∙ ap (λ (l : List ℕ). getD l s 0) (sym e) ∙ h));
     }
-  where
-    zero-at : (n i : ℕ) → _≡_ {A = ℕ} (getD (replicate n 0) i 0) 0
-    zero-at zero i = refl
-    zero-at (suc n) zero = refl
-    zero-at (suc n) (suc i) = zero-at n i
 
 -- the entry of a slot is 0 or a side, counted from 1
 pub slot-entry : {sides old slots : List ℕ} → Slotted sides old slots → (s : ℕ) → getD slots s 0 ≤ sideCount sides

@@ -1,26 +1,32 @@
--- Rows of marks by net, and what they say of the clauses.
+-- Rows of marks by net and by place, and what they say of the clauses.
 -- Assumes nothing.
 use mathlib.Core.Path.{_≡_, refl, sym, _∙_, ap, subst, subst⁻¹}
-use mathlib.Core.Logic.{_≢_}
+use mathlib.Core.Logic.{_≢_, _⊎_, inl, inr}
+use mathlib.Core.Bool.{Bool, true, false, not, _&&_, true≢false}
 use mathlib.Core.List.{List}
-use Prim.Native.Nat.{ℕ, _+_, _-_, _*_, _≤_, _<_}
+use Prim.Native.Nat.{ℕ, _+_, _-_, _*_, _/_, _%_, _≤_, _<_}
 use native.Mathlib.Omega.{arith}
 use native.Mathlib.Decide.{decLt, ℕ-discrete}
-use lib.ListN.{length, getD, set, List·getD-eq-default}
+use lib.Dec.{eqb}
+use lib.ListN.{length, getD, set, replicate, List·getD-eq-default}
 use lib.Seq.{getD-set-same, getD-set-other}
+use borrow.Author.Tests.{eq-eqb, ne-eqb, eqb-true}
 use Rattle.clauses.specs.Code.{net}
 use Rattle.clauses.specs.Limit.{maxEntries}
+use Rattle.clauses.proofs.Lists.{and-both, not-eqb}
 use Rattle.gates.specs.Sign.{flip, isInverse}
-use Rattle.gates.specs.Found.{clauseAt, Starts, LiteralAt}
+use Rattle.gates.specs.Found.{clauseAt, Starts, LiteralAt, isSelectNext, isSelectAfter}
 use Rattle.gates.proofs.Rows.{starts-next, starts-apart}
 use Rattle.gates.proofs.Walking.{Walk, walk-literal, walk-clause, literal-inside}
 use Rattle.gates.proofs.Signs.{net-flip}
 use Rattle.rules.specs.Answer.{leadOf}
-use Rattle.passes.specs.Passing.{leadAt}
+use Rattle.passes.specs.Passing.{leadAt, First}
 use Rattle.passes.specs.Xors.{LeadRow}
-use Rattle.passes.specs.Parts.{Moved, Changed, Shares, empty, changed, shares}
-use Rattle.passes.specs.Taking.{netAt, Indexed, HasMark, Keeps, MarksMoved, Touched, SeenTouched, SeesNet, SeesBelow, TouchesMarked, MarksTouched, Still, MarksActive, Unseen}
+use Rattle.passes.specs.Parts.{Moved, Changed, Shares, HasSide, Active, changed, side, two}
+use Rattle.passes.specs.Taking.{netAt, Indexed, HasMark, Keeps, markCount, hasMoved, isTouched, Touched, SeenTouched, SeesMoved, TwoTouched, SeesTouched, Sees, Took}
 use Rattle.passes.proofs.Joining.{lead-constant, lead-inside}
+use Rattle.passes.proofs.Maps.{zeros}
+use Rattle.passes.proofs.MarkCounts.{count-more}
 
 -- A row of marks that is written
 
@@ -39,17 +45,8 @@ module _ (marked : List ℕ) (w v : ℕ) where
       go (yes e) (no l) = absurd (h (rw e (List·getD-eq-default marked 0 (omega arith))))
       go (no d) l = mark-other x d h
 
--- one more net that has a mark if P holds of it
-pub marks-more : (P : ℕ → Type 0) (marked : List ℕ) (w v : ℕ) → w + 1 < length marked → (P w → v ≢ 0)
-    → ((k : ℕ) → k < w → P k → HasMark marked (k + 1)) → (k : ℕ) → k < w + 1 → P k → HasMark (set marked (w + 1) v) (k + 1)
-marks-more P marked w v h some below k l p = go (ℕ-discrete k w)
-  where
-    go : Dec (k ≡ w) → HasMark (set marked (w + 1) v) (k + 1)
-    go (yes e) = rw e (mark-here marked (w + 1) v h (some (subst P e p)))
-    go (no n) = mark-other marked (w + 1) v (k + 1) (λ e. n (omega arith)) (below k (omega arith) p)
-
 -- one more place of which P holds
-places-more : (P : ℕ → Type 0) (b q : ℕ) → ((k : ℕ) → b ≤ k → k < q → P k) → P q → (k : ℕ) → b ≤ k → k < q + 1 → P k
+pub places-more : (P : ℕ → Type 0) (b q : ℕ) → ((k : ℕ) → b ≤ k → k < q → P k) → P q → (k : ℕ) → b ≤ k → k < q + 1 → P k
 places-more P b q before here k l h = go (ℕ-discrete k q)
   where
     go : Dec (k ≡ q) → P k
@@ -62,7 +59,31 @@ touched-more codes old touched b q h t =
     let w = net (leadAt codes old q) in
     places-more (λ k. HasMark (set touched w 1) (net (leadAt codes old k))) b q (λ k l s. mark-keeps touched w 1 (λ e. omega arith) (net (leadAt codes old k)) (t k l s)) (mark-here touched w 1 h (λ e. omega arith))
 
--- Clauses that are seen
+-- What is seen
+
+-- the k places that are seen from b on, and one more
+pub sees-none : (seen : List ℕ) (b : ℕ) → Sees seen b 0 seen
+sees-none seen b = record { count = omega arith; marked = λ i h. absurd (omega arith); others = λ p h. refl }
+
+pub sees-more : (seen : List ℕ) (b k : ℕ) (seen′ : List ℕ) → Sees seen b k seen′ → b + k < length seen′ → getD seen (b + k) 0 ≡ 0 → Sees seen b (k + 1) (set seen′ (b + k) 1)
+sees-more seen b k seen′ s h z =
+    record {
+      count = omega (arith, count-more seen′ (b + k) h (s .others (b + k) (inr (omega arith)) ∙ z), s .count);
+      marked = λ i l. go i (ℕ-discrete i k) l;
+      others = λ p o. getD-set-other seen′ (b + k) p 1 0 (apart p o) ∙ s .others p (wider p o);
+    }
+  where
+    go : (i : ℕ) → Dec (i ≡ k) → i < k + 1 → HasMark (set seen′ (b + k) 1) (b + i)
+    go i (yes e) l = rw e (mark-here seen′ (b + k) 1 h (λ e. omega arith))
+    go i (no n) l = mark-keeps seen′ (b + k) 1 (λ e. omega arith) (b + i) (s .marked i (omega arith))
+
+    apart : (p : ℕ) → (p < b) ⊎ (b + (k + 1) ≤ p) → p ≢ b + k
+    apart p (inl l) e = omega arith
+    apart p (inr l) e = omega arith
+
+    wider : (p : ℕ) → (p < b) ⊎ (b + (k + 1) ≤ p) → (p < b) ⊎ (b + k ≤ p)
+    wider p (inl l) = inl l
+    wider p (inr l) = inr (omega arith)
 
 -- a place is in one clause
 one-clause : (row : List ℕ) (a b p : ℕ) → LiteralAt row a p → LiteralAt row b p → a ≡ b
@@ -76,22 +97,6 @@ module _ (codes starts heads next : List ℕ) (index : Indexed codes starts head
 
   pub start-inside : (q : ℕ) → netAt codes q ≢ 0 → getD starts q 0 < length codes
   start-inside q n = start-of q n .start .inside
-
-  -- the clauses of marked nets are seen
-  module _ (old : List ℕ) (nets : (q : ℕ) → netAt codes q ≤ length old) (moved seen : List ℕ) (sees : SeesBelow codes starts moved (length old + 1) seen) where
-    literal-seen : (d q : ℕ) → LiteralAt codes d q → netAt codes q ≢ 0 → HasMark moved (netAt codes q) → HasMark seen d
-    literal-seen d q l n m =
-        subst (HasMark seen) (one-clause codes (getD starts q 0) d q (start-of q n) l) (sees (netAt codes q) (omega arith) (omega (arith, nets q)) m q (literal-inside codes d q l) refl)
-
-    pub seen-touches : (touched : List ℕ) → SeenTouched codes old seen touched → TouchesMarked codes old moved touched
-    seen-touches touched t d q l n m = t d (l .start .inside) (literal-seen d q l n m)
-
-    pub unseen-still : (d : ℕ) → Unseen codes seen d → Still codes moved d
-    unseen-still d u = record { some = u .some; none = λ q l n. go q l n (ℕ-discrete (getD moved (netAt codes q) 0) 0) }
-      where
-        go : (q : ℕ) → LiteralAt codes d q → netAt codes q ≢ 0 → Dec (getD moved (netAt codes q) 0 ≡ 0) → getD moved (netAt codes q) 0 ≡ 0
-        go q l n (yes e) = e
-        go q l n (no m) = absurd (literal-seen d q l n m (u .none))
 
 -- one more place
 pub starts-more : (codes starts : List ℕ) (b p : ℕ) → Walk codes b p → p < length codes → p < length starts → ((q : ℕ) → q < p → getD codes q 0 ≢ 0 → LiteralAt codes (getD starts q 0) q)
@@ -117,22 +122,102 @@ ends-more codes starts b e h r below d s l = go (ℕ-discrete d b) (decLt b d)
     go (no n) (yes m) = absurd (omega (arith, starts-apart codes b d s m))
     go (no n) (no m) = getD-set-other starts (maxEntries + b) (maxEntries + d) e 0 (λ z. n (omega arith)) ∙ below d s (omega arith)
 
--- one more net
-pub sees-more : (codes starts moved seen seen′ : List ℕ) (w : ℕ) → Keeps seen seen′ → (HasMark moved w → SeesNet codes starts w seen′) → SeesBelow codes starts moved w seen → SeesBelow codes starts moved (w + 1) seen′
-sees-more codes starts moved seen seen′ w keeps here below x l h m q i e = go (ℕ-discrete x w)
+-- one more net of the chain's rows: P holds of the nets that pass the test
+pub nets-more : (f : ℕ → Bool) (P Q : ℕ → Type 0) (w r v : ℕ) → ((x : ℕ) → P x → Q x) → ((x : ℕ) → x < w → f x ≡ true → P x) → Q w → First f (w + 1) v r
+    → (x : ℕ) → x < r → f x ≡ true → Q x
+nets-more f P Q w r v on below here first x l t = go (ℕ-discrete x w) (decLt x w)
   where
-    go : Dec (x ≡ w) → HasMark seen′ (getD starts q 0)
-    go (yes d) = here (subst (HasMark moved) d m) q i (e ∙ d)
-    go (no n) = keeps (getD starts q 0) (below x l (omega arith) m q i e)
+    go : Dec (x ≡ w) → Dec (x < w) → Q x
+    go (yes e) d = subst⁻¹ Q e here
+    go (no n) (yes h) = on x (below x h t)
+    go (no n) (no h) = absurd (true≢false (sym t ∙ first .before x (omega arith) l))
 
--- one more clause
-pub seen-more : (codes old seen touched touched′ : List ℕ) (b : ℕ) → b < length seen → SeenTouched codes old seen touched → Keeps touched touched′ → Touched codes old touched′ b (b + length (clauseAt codes b))
-    → SeenTouched codes old (set seen b 1) touched′
-seen-more codes old seen touched touched′ b h t keeps here d l m = go (ℕ-discrete d b)
+-- .. of the first nets
+pub nets-first : (f : ℕ → Bool) (P : ℕ → Type 0) (r v : ℕ) → First f 0 v r → (x : ℕ) → x < r → f x ≡ true → P x
+nets-first f P r v first x l t = absurd (true≢false (sym t ∙ first .before x (omega arith) l))
+
+-- one more clause that is seen and touched
+pub touched-took : (codes old seen seen′ touched touched′ : List ℕ) (b : ℕ) → Took codes b seen seen′ → SeenTouched codes old seen touched → Keeps touched touched′
+    → Touched codes old touched′ b (b + length (clauseAt codes b)) → SeenTouched codes old seen′ touched′
+touched-took codes old seen seen′ touched touched′ b took t keeps here d s m = go (took .only d s m)
   where
-    go : Dec (d ≡ b) → Touched codes old touched′ d (d + length (clauseAt codes d))
-    go (yes e) = rw e here
-    go (no n) = λ q i j. keeps (net (leadAt codes old q)) (t d l (λ e. m (getD-set-other seen b d 1 0 n ∙ e)) q i j)
+    go : (d ≡ b) ⊎ HasMark seen d → Touched codes old touched′ d (d + length (clauseAt codes d))
+    go (inl e) = rw e here
+    go (inr h) = λ q i j. keeps (net (leadAt codes old q)) (t d s h q i j)
+
+-- nothing is seen yet
+pub none-touched : (codes old seen touched : List ℕ) (m : ℕ) → seen ≡ replicate m 0 → SeenTouched codes old seen touched
+none-touched codes old seen touched m e d s h = absurd (h (ap (λ (l : List ℕ). getD l d 0) e ∙ zeros m d))
+
+-- What is touched
+
+module _ (touched : List ℕ) (skip n : ℕ) where
+  pub touched-zero : n ≡ 0 → false ≡ isTouched touched skip n
+  unfolding isTouched
+  touched-zero e = rw e
+
+  pub touched-skip : n ≢ 0 → n ≡ skip → false ≡ isTouched touched skip n
+  unfolding isTouched
+  touched-skip m e = rw (ne-eqb n 0 m, eq-eqb n skip e)
+
+  pub touched-rest : n ≢ 0 → n ≢ skip → not (eqb (getD touched n 0) 0) ≡ isTouched touched skip n
+  unfolding isTouched
+  touched-rest m k = rw (ne-eqb n 0 m, ne-eqb n skip k)
+
+  pub touched-is : isTouched touched skip n ≡ true → (n ≢ 0) × (n ≢ skip) × HasMark touched n
+  unfolding isTouched
+  touched-is h = let p = and-both _ _ h in let r = and-both _ _ (p .1) in (not-eqb n 0 (p .0), not-eqb n skip (r .0), not-eqb (getD touched n 0) 0 (r .1))
+
+  pub is-touched : n ≢ 0 → n ≢ skip → HasMark touched n → isTouched touched skip n ≡ true
+  is-touched m k h = sym (touched-rest m k) ∙ ap not (ne-eqb (getD touched n 0) 0 h)
+
+-- the lead of net w + 1 has changed
+pub has-moved : (older old : List ℕ) (w : ℕ) → getD older w 0 ≢ getD old w 0 → hasMoved older old w ≡ true
+unfolding hasMoved
+has-moved older old w n = ap not (ne-eqb (getD older w 0) (getD old w 0) n)
+
+pub not-moved : (older old : List ℕ) (w : ℕ) → getD older w 0 ≡ getD old w 0 → hasMoved older old w ≡ false
+unfolding hasMoved
+not-moved older old w e = ap not (eq-eqb (getD older w 0) (getD old w 0) e)
+
+-- the mark of a side
+side-mark : (m : ℕ) → (isSelectNext m ≡ true) ⊎ (isSelectAfter m ≡ true) → 2 ≤ m
+unfolding isSelectNext isSelectAfter
+side-mark m (inl h) = omega (arith, eqb-true (m / 2 % 2) 1 h)
+side-mark m (inr h) = omega (arith, eqb-true (m / 4 % 2) 1 h)
+
+-- a search for the mark of a side finds one
+pub side-found : (codes marks : List ℕ) (b e : ℕ) → e ≡ b + length (clauseAt codes b) → (r : Bool) → ((q : ℕ) → b ≤ q → q < e → 2 ≤ getD marks q 0 → r ≡ true) → HasSide codes marks b → r ≡ true
+side-found codes marks b e end r found h = found (h .place) (h .at .low) (omega (arith, h .at .high)) (side-mark (getD marks (h .place) 0) (h .marked))
+
+-- two touched leads of different nets are found by a search for one and for another one behind it
+module _ (codes old touched : List ℕ) (b e : ℕ) (end : e ≡ b + length (clauseAt codes b)) where
+  abbrev netOf : ℕ → ℕ
+  netOf q = net (leadAt codes old q)
+
+  abbrev test : ℕ → ℕ → Bool
+  test skip q = isTouched touched skip (netOf q)
+
+  pub two-none : (q : ℕ) → First (test 0) b e q → q ≡ e → ¬ TwoTouched codes old touched b
+  two-none q f z t = true≢false (sym (t .first-touched) ∙ f .before (t .first) (t .first-at .low) (omega (arith, t .first-at .high)))
+
+  pub two-found : (q r : ℕ) → First (test 0) b e q → q ≢ e → First (test (netOf q)) (q + 1) e r → TwoTouched codes old touched b → r < e
+  two-found q r f n g t = go (ℕ-discrete (netOf (t .first)) (netOf q))
+    where
+      by : (p : ℕ) → LiteralAt codes b p → test 0 p ≡ true → netOf p ≢ netOf q → r < e
+      by p l h m = at (decLt p q) (ℕ-discrete p q) (decLt r e)
+        where
+          at : Dec (p < q) → Dec (p ≡ q) → Dec (r < e) → r < e
+          at (yes k) d c = absurd (true≢false (sym h ∙ f .before p (l .low) k))
+          at (no k) (yes d) c = absurd (m (ap netOf d))
+          at (no k) (no d) (yes c) = c
+          at (no k) (no d) (no c) =
+              let u = touched-is touched 0 (netOf p) h in
+              absurd (true≢false (sym (is-touched touched (netOf q) (netOf p) (u .0) m (u .2)) ∙ g .before p (omega arith) (omega (arith, l .high, g .high))))
+
+      go : Dec (netOf (t .first) ≡ netOf q) → r < e
+      go (no m) = by (t .first) (t .first-at) (t .first-touched) m
+      go (yes k) = by (t .second) (t .second-at) (t .second-touched) (λ j. t .apart (k ∙ sym j))
 
 -- What the marks say of the clauses
 
@@ -153,36 +238,67 @@ net-entry old leads w = go (decLt w (length old))
         omega (arith, leads .low c, net-lead old c n l, ap (λ (i : ℕ). net (getD old i 0)) s)
     go (no n) = let e : getD old w 0 ≡ 0 = List·getD-eq-default old 0 (omega arith) in omega (arith, e)
 
-module _ (codes older old : List ℕ) (nets : (q : ℕ) → net (getD codes q 0) ≤ length old) (size : length older ≡ length old) where
+module _ (codes marks starts heads next older old : List ℕ) (index : Indexed codes starts heads next) (nets : (q : ℕ) → net (getD codes q 0) ≤ length old)
+    (size : length older ≡ length old) (leads : LeadRow old) where
   moved-variable : (q : ℕ) → Moved older old (getD codes q 0) → netAt codes q ≢ 0
   moved-variable q h z = h (sym (lead-constant older (getD codes q 0) z) ∙ lead-constant old (getD codes q 0) z)
 
-  moved-marked : (moved : List ℕ) → MarksMoved older old moved → (q : ℕ) → Moved older old (getD codes q 0) → HasMark moved (net (getD codes q 0))
-  moved-marked moved m q h =
-      let c = getD codes q 0 in
-      let n = moved-variable q h in
-      let w = net c - 1 in
-      let s : w + 1 ≡ net c = omega arith in
-      rw (← s) (m w (omega (arith, nets q)) (λ e. h (sym (lead-inside older c n (omega (arith, nets q))) ∙ ap (flip (isInverse c)) e ∙ lead-inside old c n (nets q))))
+  -- a net by its place among the leads
+  place-of : (q : ℕ) → netAt codes q ≢ 0 → netAt codes q - 1 + 1 ≡ netAt codes q
+  place-of q n = omega arith
 
-  module _ (leads : LeadRow old) (first touched moved : List ℕ) (marks : MarksMoved older old first) (touches : TouchesMarked codes old first touched) (keeps : Keeps first moved) (shared : MarksTouched old touched moved) where
+  place-inside : (q : ℕ) → netAt codes q ≢ 0 → netAt codes q - 1 < length old
+  place-inside q n = omega (arith, nets q)
+
+  -- the clause of a literal is the one that the index has
+  start-is-clause : (d q : ℕ) → LiteralAt codes d q → netAt codes q ≢ 0 → getD starts q 0 ≡ d
+  start-is-clause d q l n = one-clause codes (getD starts q 0) d q (start-of codes starts heads next index q n) l
+
+  module _ (seen : List ℕ) (sees : SeesMoved codes starts older old (length old) seen) where
+    pub changed-seen : (d : ℕ) → Changed codes older old d → HasMark seen d
+    changed-seen d s =
+        let q = s .place in
+        let c = getD codes q 0 in
+        let n = moved-variable q (s .moved) in
+        let moved : getD older (net c - 1) 0 ≢ getD old (net c - 1) 0 = λ e. s .moved (sym (lead-inside older c n (omega (arith, nets q))) ∙ ap (flip (isInverse c)) e ∙ lead-inside old c n (nets q)) in
+        subst (HasMark seen) (start-is-clause d q (s .at) n)
+        (sees (net c - 1) (place-inside q n) (has-moved older old (net c - 1) moved) q (literal-inside codes d q (s .at)) (sym (place-of q n)))
+
+  module _ (touched first : List ℕ) (sees : SeesMoved codes starts older old (length old) first) (touches : SeenTouched codes old first touched) where
     changed-touched : (d q : ℕ) → Changed codes older old d → LiteralAt codes d q → HasMark touched (net (leadAt codes old q))
-    changed-touched d q s l = touches d (s .place) (s .at) (moved-variable (s .place) (s .moved)) (moved-marked first marks (s .place) (s .moved)) q (l .low) (l .high)
+    changed-touched d q s l = touches d (l .start) (changed-seen first sees d s) q (l .low) (l .high)
 
     shares-variable : (b d : ℕ) (s : Shares codes old b d) → netAt codes (s .place) ≢ 0
     shares-variable b d s z = s .variable (omega (arith, leads .low (getD codes (s .place) 0)))
 
-    shares-marked : (b d : ℕ) → Changed codes older old d → (s : Shares codes old b d) → HasMark moved (net (getD codes (s .place) 0))
-    shares-marked b d t s =
-        let c = getD codes (s .place) 0 in
-        let w = net c - 1 in
-        let n = shares-variable b d s in
-        let e : w + 1 ≡ net c = omega arith in
-        let l : net (leadOf old c) ≡ net (getD old w 0) = net-lead old c n (nets (s .place)) in
-        rw (← e) (shared w (omega (arith, nets (s .place)))
-        (record { variable = λ z. s .variable (l ∙ z); mark = subst (HasMark touched) (sym (s .same) ∙ l) (changed-touched d (s .other) t (s .other-at)) }))
+    shares-touched : (b d : ℕ) → Changed codes older old d → (s : Shares codes old b d) → isTouched touched 0 (net (leadAt codes old (s .place))) ≡ true
+    shares-touched b d t s = is-touched touched 0 _ (s .variable) (s .variable) (subst (HasMark touched) (sym (s .same)) (changed-touched d (s .other) t (s .other-at)))
 
-    pub marks-active : MarksActive codes older old moved
-    marks-active b s (empty e) = s .some e
-    marks-active b s (changed t) = keeps (net (getD codes (t .place) 0)) (moved-marked first marks (t .place) (t .moved)) (s .none (t .place) (t .at) (moved-variable (t .place) (t .moved)))
-    marks-active b s (shares d t h) = shares-marked b d t h (s .none (h .place) (h .at) (shares-variable b d h))
+    -- a clause that is due and shares a touched lead is seen
+    module _ (seen : List ℕ) (keeps : Keeps first seen) (all : SeesTouched codes marks starts old touched (length old) seen) where
+      shares-seen : (b d : ℕ) → Changed codes older old d → Shares codes old b d → HasSide codes marks b ⊎ TwoTouched codes old touched b → HasMark seen b
+      shares-seen b d t s due =
+          let q = s .place in
+          let c = getD codes q 0 in
+          let n = shares-variable b d s in
+          let e = start-is-clause b q (s .at) n in
+          let lead : net (leadOf old c) ≡ net (getD old (net c - 1) 0) = net-lead old c n (nets q) in
+          subst (HasMark seen) e
+          (all (net c - 1) (place-inside q n) (subst (λ (x : ℕ). isTouched touched 0 x ≡ true) lead (shares-touched b d t s)) q (literal-inside codes b q (s .at)) (sym (place-of q n))
+          (subst⁻¹ (λ (x : ℕ). HasSide codes marks x ⊎ TwoTouched codes old touched x) e due))
+
+      pub active-seen : (b : ℕ) → Active codes marks older old b → HasMark seen b
+      active-seen b (changed s) = keeps b (changed-seen first sees b s)
+      active-seen b (side h d s k) = shares-seen b d s k (inl h)
+      active-seen b (two d s k) =
+          shares-seen b d s (k .first)
+          (inr
+          (record {
+            first = k .first .place;
+            first-at = k .first .at;
+            first-touched = shares-touched b d s (k .first);
+            second = k .second .place;
+            second-at = k .second .at;
+            second-touched = shares-touched b d s (k .second);
+            apart = k .apart;
+          }))

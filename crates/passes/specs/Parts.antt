@@ -1,13 +1,14 @@
--- The part of a row that a round has to go over: clauses of which a lead has changed, and those that share a lead with one. What did not
--- change draws no new conclusion. Only inner contracts cite these.
+-- The part of a row that a round has to go over: clauses of which a lead has changed, and those whose gates may be taken together with one of
+-- theirs. What did not change draws no new conclusion. Only inner contracts cite these.
 -- Assumes nothing.
 use mathlib.Core.Path.{_≡_}
 use mathlib.Core.Logic.{_≢_, _⊎_}
+use mathlib.Core.Bool.{true}
 use mathlib.Core.List.{List}
 use Prim.Native.Nat.{ℕ, _+_, _≤_, _<_}
 use lib.ListN.{length, getD}
 use Rattle.clauses.specs.Code.{net}
-use Rattle.gates.specs.Found.{clauseAt, Starts, LiteralAt}
+use Rattle.gates.specs.Found.{clauseAt, Starts, LiteralAt, isSelectNext, isSelectAfter}
 use Rattle.rules.specs.Answer.{leadOf}
 use Rattle.passes.specs.Passing.{leadAt}
 
@@ -47,13 +48,26 @@ pub record Shares (row old : List ℕ) (b d : ℕ) : Type 0 where
   pub same : net (leadAt row old place) ≡ net (leadAt row old other)
   pub variable : net (leadAt row old place) ≢ 0
 
--- the round has to go over the clause at b
-pub data Active (row older old : List ℕ) (b : ℕ) : Type 0 where
-  empty : length (clauseAt row b) ≡ 0 → Active row older old b
-  changed : Changed row older old b → Active row older old b
-  shares : (d : ℕ) → Changed row older old d → Shares row old b d → Active row older old b
+-- .. and of another net too
+pub record SharesTwo (row old : List ℕ) (b d : ℕ) : Type 0 where
+  pub first : Shares row old b d
+  pub second : Shares row old b d
+  pub apart : net (leadAt row old (first .place)) ≢ net (leadAt row old (second .place))
+
+-- the clause at b has a side of an ITE
+pub record HasSide (row marks : List ℕ) (b : ℕ) : Type 0 where
+  pub place : ℕ
+  pub at : LiteralAt row b place
+  pub marked : (isSelectNext (getD marks place 0) ≡ true) ⊎ (isSelectAfter (getD marks place 0) ≡ true)
+
+-- a round other than the first has to go over the clause at b: two ANDs or XORs that a rule takes together share the leads of two nets, or the
+-- rules about one gate alone join them; two ITEs share that of the select
+pub data Active (row marks older old : List ℕ) (b : ℕ) : Type 0 where
+  changed : Changed row older old b → Active row marks older old b
+  side : HasSide row marks b → (d : ℕ) → Changed row older old d → Shares row old b d → Active row marks older old b
+  two : (d : ℕ) → Changed row older old d → SharesTwo row old b d → Active row marks older old b
 
 -- every active clause is in the part
 abbrev pub HoldsActive : List ℕ → List ℕ → List ℕ → List ℕ → List ℕ → List ℕ → Type 0
 HoldsActive row marks older old part partMarks =
-    (b : ℕ) → Starts row b → ((b′ : ℕ) × Copy row marks b part partMarks b′) ⊎ (¬ Active row older old b)
+    (b : ℕ) → Starts row b → ((b′ : ℕ) × Copy row marks b part partMarks b′) ⊎ (¬ Active row marks older old b)

@@ -1,17 +1,19 @@
--- How the active part of a row is taken out of it: rows of bytes that mark nets, and clauses that are copied one behind another. Only inner
+-- How the active part of a row is taken out of it: rows of bytes that mark nets and places, and clauses that are copied one behind another. Only inner
 -- contracts cite these.
 -- Assumes nothing.
 use mathlib.Core.Path.{_≡_}
 use mathlib.Core.Logic.{_≢_, _⊎_}
-use mathlib.Core.List.{List}
+use mathlib.Core.Bool.{Bool, true, not, cond, _&&_}
+use mathlib.Core.List.{List, [], _∷_}
 use Prim.Native.Nat.{ℕ, _+_, _-_, _≤_, _<_}
+use lib.Dec.{eqb}
 use lib.ListN.{length, getD, take}
 use Rattle.clauses.specs.Limit.{maxNets, maxEntries}
 use Rattle.clauses.specs.Code.{net}
 use Rattle.gates.specs.Found.{clauseAt, Starts, LiteralAt}
 use Rattle.passes.specs.Passing.{leadAt}
 use Rattle.passes.specs.Sides.{Chained}
-use Rattle.passes.specs.Parts.{Copy, Part, Active}
+use Rattle.passes.specs.Parts.{Copy, Part, HasSide}
 
 -- The row by its nets
 
@@ -32,7 +34,7 @@ pub record Indexed (codes starts heads next : List ℕ) : Type 0 where
   pub head-room : length heads ≡ maxNets + 1
   pub next-room : length codes ≤ length next
 
--- Marks by net, and by the start of a clause
+-- Marks by net, and by place
 
 -- w has a mark
 abbrev pub HasMark : List ℕ → ℕ → Type 0
@@ -42,9 +44,18 @@ HasMark marked w = getD marked w 0 ≢ 0
 abbrev pub Keeps : List ℕ → List ℕ → Type 0
 Keeps marked marked′ = (w : ℕ) → HasMark marked w → HasMark marked′ w
 
--- the nets whose leads have changed are marked
-abbrev pub MarksMoved : List ℕ → List ℕ → List ℕ → Type 0
-MarksMoved older old moved = (w : ℕ) → w < length old → getD older w 0 ≢ getD old w 0 → HasMark moved (w + 1)
+-- how many entries have a mark
+unfoldable pub markCount : List ℕ → ℕ
+markCount [] = 0
+markCount (x ∷ l) = cond (eqb x 0) (markCount l) (markCount l + 1)
+
+-- the lead of net w + 1 is another one than before
+unfoldable pub hasMoved : List ℕ → List ℕ → ℕ → Bool
+hasMoved older old w = not (eqb (getD older w 0) (getD old w 0))
+
+-- net n is touched, and neither 0 nor `skip`
+unfoldable pub isTouched : List ℕ → ℕ → ℕ → Bool
+isTouched touched skip n = not (eqb n 0) && (not (eqb n skip) && not (eqb (getD touched n 0) 0))
 
 -- the leads from place b up to e are touched
 abbrev pub Touched : List ℕ → List ℕ → List ℕ → ℕ → ℕ → Type 0
@@ -52,43 +63,44 @@ Touched codes old touched b e = (q : ℕ) → b ≤ q → q < e → HasMark touc
 
 -- the leads of the clauses that are seen are touched
 abbrev pub SeenTouched : List ℕ → List ℕ → List ℕ → List ℕ → Type 0
-SeenTouched codes old seen touched = (d : ℕ) → d < length codes → HasMark seen d → Touched codes old touched d (d + length (clauseAt codes d))
+SeenTouched codes old seen touched = (d : ℕ) → Starts codes d → HasMark seen d → Touched codes old touched d (d + length (clauseAt codes d))
 
 -- the clauses of net w are seen
 abbrev pub SeesNet : List ℕ → List ℕ → ℕ → List ℕ → Type 0
 SeesNet codes starts w seen = (q : ℕ) → q < length codes → netAt codes q ≡ w → HasMark seen (getD starts q 0)
 
--- .. of the marked nets below w
-abbrev pub SeesBelow : List ℕ → List ℕ → List ℕ → ℕ → List ℕ → Type 0
-SeesBelow codes starts moved w seen = (x : ℕ) → 0 < x → x < w → HasMark moved x → SeesNet codes starts x seen
+-- .. of the nets up to w whose leads have changed
+abbrev pub SeesMoved : List ℕ → List ℕ → List ℕ → List ℕ → ℕ → List ℕ → Type 0
+SeesMoved codes starts older old w seen = (x : ℕ) → x < w → hasMoved older old x ≡ true → SeesNet codes starts (x + 1) seen
 
--- the leads of the clauses with a marked net are touched
-abbrev pub TouchesMarked : List ℕ → List ℕ → List ℕ → List ℕ → Type 0
-TouchesMarked codes old moved touched =
-    (d q : ℕ) → LiteralAt codes d q → netAt codes q ≢ 0 → HasMark moved (netAt codes q) → Touched codes old touched d (d + length (clauseAt codes d))
+-- two leads of the clause at b that are touched are of different nets
+pub record TwoTouched (codes old touched : List ℕ) (b : ℕ) : Type 0 where
+  pub first : ℕ
+  pub first-at : LiteralAt codes b first
+  pub first-touched : isTouched touched 0 (net (leadAt codes old first)) ≡ true
+  pub second : ℕ
+  pub second-at : LiteralAt codes b second
+  pub second-touched : isTouched touched 0 (net (leadAt codes old second)) ≡ true
+  pub apart : net (leadAt codes old first) ≢ net (leadAt codes old second)
 
--- the lead of net w + 1 is touched, and no constant
-pub record LeadTouched (old touched : List ℕ) (w : ℕ) : Type 0 where
-  pub variable : net (getD old w 0) ≢ 0
-  pub mark : HasMark touched (net (getD old w 0))
+-- the clause at b, of which a lead is touched, has to be taken
+abbrev pub Due : List ℕ → List ℕ → List ℕ → List ℕ → ℕ → Type 0
+Due codes marks old touched b = HasSide codes marks b ⊎ TwoTouched codes old touched b
 
--- the nets of the leads that are touched are marked
-abbrev pub MarksTouched : List ℕ → List ℕ → List ℕ → Type 0
-MarksTouched old touched moved = (w : ℕ) → w < length old → LeadTouched old touched w → HasMark moved (w + 1)
+-- the clauses of net w that are due are seen
+abbrev pub SeesDue : List ℕ → List ℕ → List ℕ → List ℕ → List ℕ → ℕ → List ℕ → Type 0
+SeesDue codes marks starts old touched w seen = (q : ℕ) → q < length codes → netAt codes q ≡ w → Due codes marks old touched (getD starts q 0) → HasMark seen (getD starts q 0)
 
--- the clause at b has literals, and no net of them is marked
-pub record Still (codes moved : List ℕ) (b : ℕ) : Type 0 where
-  pub some : length (clauseAt codes b) ≢ 0
-  pub none : (q : ℕ) → LiteralAt codes b q → netAt codes q ≢ 0 → getD moved (netAt codes q) 0 ≡ 0
+-- .. of the nets up to w whose leads are touched
+abbrev pub SeesTouched : List ℕ → List ℕ → List ℕ → List ℕ → List ℕ → ℕ → List ℕ → Type 0
+SeesTouched codes marks starts old touched w seen =
+    (x : ℕ) → x < w → isTouched touched 0 (net (getD old x 0)) ≡ true → SeesDue codes marks starts old touched (x + 1) seen
 
--- such a clause is not active
-abbrev pub MarksActive : List ℕ → List ℕ → List ℕ → List ℕ → Type 0
-MarksActive codes older old moved = (b : ℕ) → Still codes moved b → ¬ Active codes older old b
-
--- the clause at b has literals, and is not seen
-pub record Unseen (codes seen : List ℕ) (b : ℕ) : Type 0 where
-  pub some : length (clauseAt codes b) ≢ 0
-  pub none : getD seen b 0 ≡ 0
+-- the k places from b on, which had no mark, have got one, and no others have
+pub record Sees (seen : List ℕ) (b k : ℕ) (seen′ : List ℕ) : Type 0 where
+  pub count : markCount seen′ ≡ markCount seen + k
+  pub marked : (i : ℕ) → i < k → HasMark seen′ (b + i)
+  pub others : (p : ℕ) → (p < b) ⊎ (b + k ≤ p) → getD seen′ p 0 ≡ getD seen p 0
 
 -- The copies
 
@@ -97,9 +109,16 @@ pub record Laid (row : List ℕ) (b k : ℕ) (part : List ℕ) (n : ℕ) (part�
   pub stays : (i : ℕ) → i < n → getD part′ i 0 ≡ getD part i 0
   pub laid : (i : ℕ) → i < k → getD part′ (n + i) 0 ≡ getD row (b + i) 0
 
--- the clauses that start below b have been gone through: each is copied, or L holds of it; n entries are written
-pub record Taken (codes marks : List ℕ) (L : ℕ → Type 0) (part partMarks : List ℕ) (n b : ℕ) : Type 0 where
-  pub few : n ≤ b
+-- the clauses that are seen, each at all of its places, are copied: n entries are written
+pub record Taken (codes marks seen part partMarks : List ℕ) (n : ℕ) : Type 0 where
+  pub count : n ≡ markCount seen
+  pub whole : (d q : ℕ) → Starts codes d → d ≤ q → q ≤ d + length (clauseAt codes d) → HasMark seen q → HasMark seen d
   pub behind : (n ≡ 0) ⊎ (getD part (n - 1) 0 ≡ 0)
   pub is-part : Part codes marks (take n part) (take n partMarks)
-  pub all : (d : ℕ) → Starts codes d → d < b → ((b′ : ℕ) × Copy codes marks d (take n part) (take n partMarks) b′) ⊎ L d
+  pub all : (d : ℕ) → Starts codes d → HasMark seen d → (b′ : ℕ) × Copy codes marks d (take n part) (take n partMarks) b′
+
+-- the clause at b is seen now, and no other one is that was not
+pub record Took (codes : List ℕ) (b : ℕ) (seen seen′ : List ℕ) : Type 0 where
+  pub keeps : Keeps seen seen′
+  pub here : HasMark seen′ b
+  pub only : (d : ℕ) → Starts codes d → HasMark seen′ d → (d ≡ b) ⊎ HasMark seen d

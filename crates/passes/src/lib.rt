@@ -18,5 +18,6 @@ mod sides;
 mod sign;
 mod table;
 pub mod tally;
+mod touched;
 mod units;
 mod xors;

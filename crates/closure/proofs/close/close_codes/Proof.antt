@@ -23,9 +23,7 @@ slice-aggregate-index-row-3 : tie.Need-slice-aggregate-index-row-3
 slice-aggregate-index-row-3 c = search needs
 
 index-row-requires : tie.Need-index-row-requires
-index-row-requires c κs =
-    let s = c .before .before .before .before .before .before .before .before .pre in
-    ((s .1 .1 .0 .1, λ q. omega (arith, found-nets (s .0) (s .1 .0) q, s .1 .1 .0 .0)), (refl, refl, s .1 .1 .0 .1))
+index-row-requires c κs = let s = c .before .before .before .before .before .before .before .before in ((s .pre .1 .1 .0 .1, λ q. omega (arith, found-nets (s .pre .0) (s .pre .1 .0) q, s .pre .1 .1 .0 .0)), (refl, refl, s .pre .1 .1 .0 .1))
 
 first-leads-requires : tie.Need-first-leads-requires
 first-leads-requires c κs = c .before .before .before .before .before .before .before .before .before .before .before .before .before .pre .1 .1 .0 .0
@@ -69,25 +67,22 @@ slice-aggregate-run-11 c = search needs
 slice-aggregate-run-12 : tie.Need-slice-aggregate-run-12
 slice-aggregate-run-12 c = search needs
 
-slice-aggregate-run-13 : tie.Need-slice-aggregate-run-13
-slice-aggregate-run-13 c = search needs
-
 run-requires : tie.Need-run-requires
 run-requires c κs =
-    let s = c .before .before .before .before .before .before .before .before .before .before .before .before .before .before .before .before .before .before .before .before .before .before .before .before .before .before .before .before .before .before .before .before .before .before .before .before in
-    let k = c .before .before .before .before .before .before .before .before .before .before .before .before .before .before .before .before .before .before .before .before .before .before .first-leads .kept .0 in
-    let e = c .before .before .before .before .before .before .before .before .before .before .before .before .before .before .before .before .before .before .before .before .before .before .first-leads .ensures in (
+    let s = c .before .before .before .before .before .before .before .before .before .before .before .before .before .before .before .before .before .before .before .before .before .before .before .before .before .before .before .before .before .before .before .before .before .before .before in
+    let k = c .before .before .before .before .before .before .before .before .before .before .before .before .before .before .before .before .before .before .before .before .before .first-leads .kept .0 in
+    let e = c .before .before .before .before .before .before .before .before .before .before .before .before .before .before .before .before .before .before .before .before .before .first-leads .ensures in (
       s .pre .0,
       (
         subst⁻¹ (λ (n : ℕ). Fits n (clausesIn (now (s .args .codes)))) k (s .pre .1 .0),
         (
           (subst⁻¹ (λ (n : ℕ). n ≤ maxNets) k (s .pre .1 .1 .0 .0), s .pre .1 .1 .0 .1),
           (
-            (e ∙ ap netsOf (sym k), c .before .before .before .before .before .before .before .before .before .before .before .before .before .before .before .before .before .before .first-leads2 .ensures ∙ ap netsOf (s .pre .1 .1 .1 .0) ∙ sym e, s .pre .1 .1 .1 .1 ∙ sym k),
+            (e ∙ ap netsOf (sym k), c .before .before .before .before .before .before .before .before .before .before .before .before .before .before .before .before .before .first-leads2 .ensures ∙ ap netsOf (s .pre .1 .1 .1 .0) ∙ sym e, s .pre .1 .1 .1 .1 ∙ sym k),
             (
-              c .before .before .before .before .before .before .before .before .before .before .before .before .before .before .before .before .before .before .before .before .before .before .before .before .before .before .before .index-row .ensures,
+              c .before .before .before .before .before .before .before .before .before .before .before .before .before .before .before .before .before .before .before .before .before .before .before .before .before .before .index-row .ensures,
               (
-                record { moved-room = refl; touched-room = refl; seen-room = refl; part-room = refl; tag-room = refl },
+                record { touched-room = refl; seen-room = refl; part-room = refl; tag-room = refl },
                 record { key-room = refl; value-room = refl; head-room = refl; chain-room = refl; side-room = refl },
               ),
             ),
@@ -97,16 +92,16 @@ run-requires c κs =
     )
 
 same-length : tie.Need-same-length
-same-length c = c .before .before .before .before .before .before .before .before .before .before .before .before .before .before .before .before .run .kept .1 .1 .1 .1 .1 .1 .0 ∙ c .before .before .before .before .before .before .before .before .before .before .before .before .before .before .before .before .before .before .before .before .before .before .before .before .before .before .before .before .before .before .before .before .before .before .before .before .before .before .before .first-leads .kept .0
+same-length c = c .before .before .before .before .before .before .before .before .before .before .before .before .before .before .before .run .kept .1 .1 .1 .1 .1 .1 .0 ∙ c .before .before .before .before .before .before .before .before .before .before .before .before .before .before .before .before .before .before .before .before .before .before .before .before .before .before .before .before .before .before .before .before .before .before .before .before .before .first-leads .kept .0
 
 same-length-2 : tie.Need-same-length-2
-same-length-2 c = c .before .before .before .before .before .before .before .before .before .before .before .before .before .before .before .before .run .kept .1 .1 .1 .1 .1 .1 .1 .0 ∙ c .before .before .before .before .before .before .before .before .before .before .before .before .before .before .before .before .before .before .before .before .before .before .before .before .before .before .before .before .before .before .before .before .before .before .before .first-leads2 .kept .0
+same-length-2 c = c .before .before .before .before .before .before .before .before .before .before .before .before .before .before .before .run .kept .1 .1 .1 .1 .1 .1 .1 .0 ∙ c .before .before .before .before .before .before .before .before .before .before .before .before .before .before .before .before .before .before .before .before .before .before .before .before .before .before .before .before .before .before .before .before .before .first-leads2 .kept .0
 
 same-length-3 : tie.Need-same-length-3
 same-length-3 c = search needs
 
 returns : tie.Need-returns
-returns c = let k = c .before .before .before .before .before .before .before .before .before .before .before .before .before .before .before .before .before .before .before .before .before .before .before .before .before .before .before .before .before .before .before .before .before .before .before .before .before .before .before .first-leads .kept .0 in let e = c .before .before .before .before .before .before .before .before .before .before .before .before .before .before .before .before .run .ensures in (rw k at (e .0), rw k at (e .1))
+returns c = let k = c .before .before .before .before .before .before .before .before .before .before .before .before .before .before .before .before .before .before .before .before .before .before .before .before .before .before .before .before .before .before .before .before .before .before .before .before .before .first-leads .kept .0 in let e = c .before .before .before .before .before .before .before .before .before .before .before .before .before .before .before .run .ensures in (rw k at (e .0), rw k at (e .1))
 
 pub close-codes-spec : {M : Type 1} → statement M
 close-codes-spec =
@@ -130,7 +125,6 @@ close-codes-spec =
     slice-aggregate-run-10
     slice-aggregate-run-11
     slice-aggregate-run-12
-    slice-aggregate-run-13
     run-requires
     same-length
     same-length-2

@@ -10,7 +10,8 @@ use lib.ListN.{length}
 use Rattle.passes.specs.Holding.{Blank}
 use Rattle.passes.specs.Marked.{Went}
 use Rattle.passes.specs.Matching.{Table, Matched}
-use Rattle.passes.proofs.AndPairs.{matched-pairs, zeros, table-begin, table-size, absent-mark, step-absent}
+use Rattle.passes.proofs.Maps.{zeros}
+use Rattle.passes.proofs.AndPairs.{matched-pairs, table-begin, table-size, absent-mark, step-absent}
 use Rattle.passes.proofs.Going.{went-none, went-then, went-making, went-size, ready-on}
 use Rattle.passes.proofs.and_pairs.match_all.Statement.{statement}
 use Rattle.passes.proofs.and_pairs.match_all.Tie as tie

@@ -11,7 +11,7 @@ use borrow.Author.Needs.{needs}
 use Rattle.passes.proofs.Going.{went-none, went-then, ready-on}
 use Rattle.passes.proofs.WithoutGates.{none-ands, none-and-pairs}
 use Rattle.passes.proofs.RowsJoined.{ands-later}
-use Rattle.passes.proofs.AndPairs.{zeros}
+use Rattle.passes.proofs.Maps.{zeros}
 use Rattle.passes.proofs.row.by_and_gates.Statement.{statement}
 use Rattle.passes.proofs.row.by_and_gates.Tie as tie
 

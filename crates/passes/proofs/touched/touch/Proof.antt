@@ -1,4 +1,4 @@
--- `passes::parts::touch` meets its contract.
+-- `passes::touched::touch` meets its contract.
 -- Assumes nothing.
 use mathlib.Core.Path.{_≡_, refl, _∙_}
 use Prim.Native.Nat.{_-_, _<_}
@@ -9,8 +9,8 @@ use Rattle.passes.specs.Passing.{leadAt}
 use Rattle.passes.specs.Taking.{Keeps, Touched}
 use Rattle.passes.proofs.Taking.{mark-keeps, touched-more}
 use borrow.Author.Needs.{needs}
-use Rattle.passes.proofs.parts.touch.Statement.{statement}
-use Rattle.passes.proofs.parts.touch.Tie as tie
+use Rattle.passes.proofs.touched.touch.Statement.{statement}
+use Rattle.passes.proofs.touched.touch.Tie as tie
 
 abbrev Inv-loop : tie.InvT-loop
 Inv-loop codes b e old touched₀ q₀ touched q = Keeps touched₀ touched × Touched codes old touched b q × (length touched ≡ length touched₀)
