@@ -1,17 +1,15 @@
 -- A part of the row that holds all active clauses is enough for a round: what is joined at its places is joined at all places of the row.
 -- Assumes nothing.
-use mathlib.Core.Logic.{_⊎_}
 use mathlib.Core.List.{List}
-use Prim.Native.Nat.{ℕ, _≤_, _<_}
+use Prim.Native.Nat.{ℕ, _≤_}
 use lib.ListN.{length}
 use Rattle.clauses.specs.Limit.{maxNets}
-use Rattle.clauses.specs.Code.{net}
 use Rattle.clauses.specs.Listing.{Fits}
 use Rattle.passes.specs.Making.{Making, fresh}
 use Rattle.passes.specs.Xors.{LeadRow}
 use Rattle.passes.specs.Marked.{Marked}
 use Rattle.passes.specs.RowJoined.{RowJoined}
-use Rattle.passes.specs.Parts.{Ended, Moved, HoldsActive}
+use Rattle.passes.specs.Parts.{Ended, HoldsActive}
 use Rattle.passes.specs.declared.tally.Tally.{Tally}
 use Rattle.passes.proofs.PartRounds.{PartRound, clauses-joined}
 use Rattle.passes.proofs.ActiveAnds.{ands-joined, and-pairs-joined}

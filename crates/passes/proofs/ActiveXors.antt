@@ -2,20 +2,18 @@
 -- Assumes nothing.
 use mathlib.Core.Path.{_≡_, refl, sym, _∙_, ap, subst, subst⁻¹}
 use mathlib.Core.Logic.{_≢_, _⊎_, inl, inr, ⊎-elim}
-use mathlib.Core.List.{List, [], _∷_}
+use mathlib.Core.List.{List}
 use Prim.Native.Nat.{ℕ, _*_, _<_}
 use native.Mathlib.Omega.{arith}
-use native.Mathlib.Decide.{ℕ-discrete}
 use lib.ListN.{getD}
 use Rattle.clauses.specs.Code.{net}
 use Rattle.clauses.specs.Clause.{Mem}
-use Rattle.clauses.proofs.Lists.{in-first}
 use Rattle.gates.specs.Found.{Starts}
 use Rattle.gates.proofs.Rows.{literal-of}
 use Rattle.rules.specs.Answer.{leadOf}
 use Rattle.passes.specs.Making.{JoinedBy}
 use Rattle.passes.specs.Passing.{leadAt}
-use Rattle.passes.specs.Xors.{oddNets, packed, Digits, more, XorAt, restAt, keyAt, sumAt}
+use Rattle.passes.specs.Xors.{oddNets, packed, Digits, XorAt, restAt, keyAt, sumAt}
 use Rattle.passes.specs.RowJoined.{XorsJoined}
 use Rattle.passes.specs.Parts.{Changed, Shares, SharesTwo}
 use Rattle.passes.specs.declared.tally.Tally.{Tally}

@@ -1,19 +1,16 @@
 -- A round that has gone over a part of the row: a clause of the row is copied into the part, or the round before has drawn what it draws.
 -- Assumes nothing.
-use mathlib.Core.Path.{_≡_, sym, _∙_}
+use mathlib.Core.Path.{sym, _∙_}
 use mathlib.Core.Logic.{_⊎_, inl, inr}
 use mathlib.Core.List.{List}
-use Prim.Native.Nat.{ℕ, _≤_, _<_}
-use native.Mathlib.Omega.{arith}
-use native.Mathlib.Decide.{ℕ-discrete}
-use lib.ListN.{length, getD}
+use Prim.Native.Nat.{ℕ, _≤_}
+use lib.ListN.{length}
 use Rattle.clauses.specs.Limit.{maxNets}
 use Rattle.clauses.specs.Code.{net}
 use Rattle.clauses.specs.Clause.{Mem}
 use Rattle.clauses.specs.Listing.{Fits}
 use Rattle.clauses.proofs.Clauses.{fits-present}
-use Rattle.gates.specs.Found.{clauseAt, Starts, LiteralAt}
-use Rattle.gates.proofs.Rows.{literal-in}
+use Rattle.gates.specs.Found.{clauseAt, Starts}
 use Rattle.passes.specs.Making.{Making, fresh}
 use Rattle.passes.specs.Passing.{ClauseJoined}
 use Rattle.passes.specs.Xors.{LeadRow}
@@ -22,7 +19,7 @@ use Rattle.passes.specs.RowJoined.{RowJoined}
 use Rattle.passes.specs.Parts.{Ended, Copy, Changed, Shares, SharesTwo, Active, changed, two, HoldsActive}
 use Rattle.passes.specs.declared.tally.Tally.{Tally}
 use Rattle.passes.proofs.PartPlaces.{clause-copied}
-use Rattle.passes.proofs.UnchangedClauses.{Unchanged, unchanged-or-changed, kept-at, clause-unchanged}
+use Rattle.passes.proofs.UnchangedClauses.{Unchanged, unchanged-or-changed, clause-unchanged}
 
 -- the round from the old leads has gone over the part, and the one before has joined what all of the row draws
 pub record PartRound (cs : List (List ℕ)) (row marks part partMarks older old new : List ℕ) (t : Tally) : Type 0 where

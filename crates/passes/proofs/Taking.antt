@@ -2,7 +2,7 @@
 -- Assumes nothing.
 use mathlib.Core.Path.{_≡_, refl, sym, _∙_, ap, subst, subst⁻¹}
 use mathlib.Core.Logic.{_≢_, _⊎_, inl, inr}
-use mathlib.Core.Bool.{Bool, true, false, not, _&&_, true≢false}
+use mathlib.Core.Bool.{Bool, true, false, not, true≢false}
 use mathlib.Core.List.{List}
 use Prim.Native.Nat.{ℕ, _+_, _-_, _*_, _/_, _%_, _≤_, _<_}
 use native.Mathlib.Omega.{arith}
@@ -23,7 +23,7 @@ use Rattle.rules.specs.Answer.{leadOf}
 use Rattle.passes.specs.Passing.{leadAt, First}
 use Rattle.passes.specs.Xors.{LeadRow}
 use Rattle.passes.specs.Parts.{Moved, Changed, Shares, HasSide, Active, changed, side, two}
-use Rattle.passes.specs.Taking.{netAt, Indexed, HasMark, Keeps, markCount, hasMoved, isTouched, Touched, SeenTouched, SeesMoved, TwoTouched, SeesTouched, Sees, Took}
+use Rattle.passes.specs.Taking.{netAt, Indexed, HasMark, Keeps, hasMoved, isTouched, Touched, SeenTouched, SeesMoved, TwoTouched, SeesTouched, Sees, Took}
 use Rattle.passes.proofs.Joining.{lead-constant, lead-inside}
 use Rattle.passes.proofs.Maps.{zeros}
 use Rattle.passes.proofs.MarkCounts.{count-more}

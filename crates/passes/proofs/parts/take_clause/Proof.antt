@@ -1,8 +1,6 @@
 -- `passes::parts::take_clause` meets its contract.
 -- Assumes nothing.
-use Prim.Native.Nat.{_+_, _≤_}
 use native.Mathlib.Omega.{arith}
-use lib.ListN.{length}
 use Rattle.passes.proofs.Appending.{unseen, took-seen, took-clause, seen-room, taken-copied}
 use borrow.Author.Needs.{needs}
 use Rattle.passes.proofs.parts.take_clause.Statement.{statement}

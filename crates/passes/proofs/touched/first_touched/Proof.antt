@@ -2,8 +2,7 @@
 -- Assumes nothing.
 use native.Mathlib.Omega.{arith}
 use mathlib.Core.Path.{_∙_, sym, ap}
-use mathlib.Core.Bool.{Bool}
-use Prim.Native.Nat.{ℕ, _-_}
+use Prim.Native.Nat.{_-_}
 use Rattle.clauses.specs.Code.{net}
 use Rattle.passes.specs.Passing.{leadAt}
 use Rattle.passes.specs.Taking.{isTouched}

@@ -1,6 +1,5 @@
 -- `passes::touched::next_moved` meets its contract.
 -- Assumes nothing.
-use mathlib.Core.Path.{sym}
 use Prim.Native.Nat.{_-_}
 use lib.ListN.{length}
 use Rattle.passes.specs.Taking.{hasMoved}
