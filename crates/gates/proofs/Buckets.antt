@@ -3,7 +3,8 @@
 use mathlib.Core.Path.{_≡_, refl, sym, _∙_, ap}
 use mathlib.Core.Bool.{true, false}
 use mathlib.Core.List.{List, _∷_}
-use Prim.Native.Nat.{ℕ, _+_, _%_, _≤_, _<_}
+use Prim.Native.Nat.{ℕ, _+_, _*_, _%_, _≤_, _<_}
+use native.Mathlib.Nat.{mul-le-mul}
 use native.Mathlib.Omega.{arith}
 use lib.ListN.{length, getD, drop}
 use borrow.Table.Steps.{cases}
@@ -45,9 +46,9 @@ literals-once (more {x = x} {xs = xs} n d) = cases (mem x xs) (λ t. absurd (n (
 
 -- The sum so far, and that of the rest
 
-pub share-small : (x : ℕ) → share x < 65537
+pub share-small : (x : ℕ) → share x ≤ 65535 * 131071
 unfolding share
-share-small x = omega arith
+share-small x = mul-le-mul {n₂ = 65535} {m₂ = 131071} (omega arith) (omega arith)
 
 module _ (q : List ℕ) (i : ℕ) where
   pub rest-end : length q ≤ i → sum (literals (drop i q)) ≡ 0

@@ -10,9 +10,10 @@ use lib.ListN.{length, getD}
 use Rattle.clauses.specs.Listing.{literals}
 use Rattle.gates.specs.Found.{clauseAt, Starts}
 
--- what a literal adds to the sum of its clause
+-- what a literal adds to the sum of its clause: different codes below the number of buckets add different amounts, and not in proportion to the
+-- code, so that clauses over the same nets with other signs are apart
 unfoldable pub share : ℕ → ℕ
-share x = x % 65536 * 40503 % 65537
+share x = x % 65536 * (2 * (x % 65536) + 1)
 
 unfoldable pub sum : List ℕ → ℕ
 sum [] = 0

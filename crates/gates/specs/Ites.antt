@@ -111,7 +111,7 @@ lastWith h b (suc k) = cond (eqb (h k) b) (suc k) (lastWith h b k)
 
 -- the bucket, of m, of the halves with literal x and the output whose inverse is y
 unfoldable pub halfBucket : ℕ → ℕ → ℕ → ℕ
-halfBucket m x y = (x * 31 + y) % m
+halfBucket m x y = (x * 67 + y) % m
 
 -- of a half at a paired place: its bucket, counted from 1
 unfoldable pub keyOf : ℕ → List ℕ → ℕ → ℕ

@@ -55,7 +55,7 @@ pub struct Finding {
 }
 
 // Writes the normal form of a row at the start of the codes, and the marks of its gates at the start of the marks. Besides what
-// is lent it uses 55,298 numbers of its own, 221,192 bytes.
+// is lent it uses 61,440 numbers of its own, 245,760 bytes.
 pub fn find_gates(row: &[i32], codes: &mut [u32], marks: &mut [u8]) -> Finding
     requires { ⌜ length (now row) ≤ maxEntries ⌝ }
     requires { ⌜ length (now row) ≤ length (now codes) ⌝ }
@@ -69,7 +69,7 @@ pub fn find_gates(row: &[i32], codes: &mut [u32], marks: &mut [u8]) -> Finding
     ensures { λ r. ⌜ AreCounts (clausesOf (now (row .entry))) (r .counts .ands) (r .counts .xors) (r .counts .ites) ⌝ }
 {
     let mut index = [0u32; 20480];
-    let mut heads = [0u32; 2050];
+    let mut heads = [0u32; 8192];
     let mut chain = [0u32; 32768];
     let n = prepare(row, codes, &mut index, &mut heads);
     let counts = mark_gates(&codes[..n], &index, &mut heads, &mut chain, &mut marks[..n]);

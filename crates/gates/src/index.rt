@@ -18,7 +18,8 @@ pub const BUCKETS: usize = 4096;
 fn share(x: u32) -> usize
     ensures { λ r. ⌜ r ≡ share x ⌝ }
 {
-    ((x % 65536) * 40503 % 65537) as usize
+    let y = (x % 65536) as usize;
+    y * (2 * y + 1)
 }
 
 // The sum of a clause's literals with one more, by buckets.

@@ -96,7 +96,7 @@ fn half_bucket(m: usize, x: u32, y: u32) -> usize
     ensures { λ r. ⌜ r ≡ halfBucket m x y ⌝ }
     ensures { λ r. ⌜ r < m ⌝ }
 {
-    ((x * 31 + y) as usize) % m
+    ((x * 67 + y) as usize) % m
 }
 
 // Puts half j, with literal x and the output whose inverse is y, into its chain.

@@ -27,7 +27,7 @@ slice-aggregate-prepare-2 : tie.Need-slice-aggregate-prepare-2
 slice-aggregate-prepare-2 c = search needs
 
 prepare-requires : tie.Need-prepare-requires
-prepare-requires c κs = (c .before .before .before .before .before .pre .0, (c .before .before .before .before .before .pre .1 .0, (omega (arith, c .before .before .before .before .before .pre .0, length-replicate {A = ℕ} 20480 0), (omega (arith, length-replicate {A = ℕ} 2050 0), (c .before .before .before .before .before .pre .1 .1 .1 .0, c .before .before .before .before .before .pre .1 .1 .1 .1)))))
+prepare-requires c κs = (c .before .before .before .before .before .pre .0, (c .before .before .before .before .before .pre .1 .0, (omega (arith, c .before .before .before .before .before .pre .0, length-replicate {A = ℕ} 20480 0), (omega (arith, length-replicate {A = ℕ} 8192 0), (c .before .before .before .before .before .pre .1 .1 .1 .0, c .before .before .before .before .before .pre .1 .1 .1 .1)))))
 
 slice-reshare-prefix-mark-gates : tie.Need-slice-reshare-prefix-mark-gates
 slice-reshare-prefix-mark-gates c = omega (arith, fits (c .before .before .before .before), c .before .before .before .before .prepare .kept .1 .0, c .before .before .before .before .before .before .before .before .before .before .pre .1 .0)
@@ -60,7 +60,7 @@ mark-gates-requires c κs =
         normal-row row (start .pre .0) (start .pre .1 .1 .1 .0) (start .pre .1 .1 .1 .1),
         (
           record {
-            some = omega (arith, c .before .before .before .before .before .before .before .before .before .prepare .kept .1 .1 .1 .0, length-replicate {A = ℕ} 2050 0);
+            some = omega (arith, c .before .before .before .before .before .before .before .before .before .prepare .kept .1 .1 .1 .0, length-replicate {A = ℕ} 8192 0);
             numbers = omega (arith, normal-length row (start .pre .1 .1 .1 .1), start .pre .0, length-replicate {A = ℕ} 32768 0);
           },
           length-take-le _ _ (omega (arith, fits (c .before .before .before .before .before .before .before .before .before), start .pre .1 .1 .0)) ∙ c .before .before .before .before .before .before .before .before .before .prepare .ensures .0,

@@ -22,7 +22,7 @@ rem-result c = search needs
 
 returns : tie.Need-returns
 unfolding halfBucket
-returns c = (refl, mod-lt (c .args .x * 31 + c .args .y) (c .pre .0))
+returns c = (refl, mod-lt (c .args .x * 67 + c .args .y) (c .pre .0))
 
 pub half-bucket-spec : {M : Type 1} → statement M
 half-bucket-spec = tie.close (tie.spec mul-result add-result cast-result rem-result returns)
