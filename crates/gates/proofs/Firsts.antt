@@ -19,13 +19,17 @@ module _ (row : List ℕ) where
   pub first-same : {q r : List ℕ} {b : ℕ} → Same q r → First row q b → First row r b
   first-same s f = record { start = f .start; same = same-trans (same-sym s) (f .same); least = λ p h k t. f .least p h k (same-trans s t) }
 
-  first-is : (b : ℕ) → isFirst row b ≡ true → First row (clauseAt row b) b
+  pub first-is : (b : ℕ) → isFirst row b ≡ true → First row (clauseAt row b) b
   unfolding isFirst isAt
   first-is b h = go (placeOf row (clauseAt row b)) refl
     where
       go : (r : Place) → placeOf row (clauseAt row b) ≡ r → First row (clauseAt row b) b
       go (At a) e = place-first row (clauseAt row b) (e ∙ ap At (eqb-true a b (rw e at h)))
       go Nothing e = absurd (false≢true (rw e at h))
+
+  pub is-first : (b : ℕ) → First row (clauseAt row b) b → isFirst row b ≡ true
+  unfolding isFirst isAt
+  is-first b f = rw (first-place row (clauseAt row b) f) (eq-eqb b b refl)
 
   -- no two of one set
   pub first-once : (a b : ℕ) → isFirst row a ≡ true → isFirst row b ≡ true → Same (clauseAt row a) (clauseAt row b) → a ≡ b
@@ -39,13 +43,12 @@ module _ (row : List ℕ) where
     pub same : Same c (clauseAt row place)
 
   pub first-of : {c : List ℕ} → Present (clausesIn row) c → FirstOf c
-  unfolding isFirst isAt
   first-of {c} h = go (placeOf row c) refl
     where
       go : (r : Place) → placeOf row c ≡ r → FirstOf c
       go (At b) e =
           let f = place-first row c e in
-          record { place = b; start = f .start; first = rw (first-place row (clauseAt row b) (first-same (f .same) f)) (eq-eqb b b refl); same = f .same }
+          record { place = b; start = f .start; first = is-first b (first-same (f .same) f); same = f .same }
       go Nothing e =
           let s = listed-starts row (h .found) (h .listed) in
           absurd (place-nothing row c e (s .place) (s .start) (subst⁻¹ (Same c) (s .is) (h .same)))

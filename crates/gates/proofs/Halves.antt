@@ -19,9 +19,8 @@ use Rattle.clauses.specs.Listing.{present}
 use Rattle.clauses.proofs.Lists.{and-both, keep-yes, keep-no, each-length}
 use Rattle.gates.specs.Sign.{isInverse}
 use Rattle.gates.specs.Found.{around}
-use Rattle.gates.specs.Search.{placeOf}
 use Rattle.gates.specs.Normal.{maxCode, Normal}
-use Rattle.gates.specs.Mark.{isAt, startOf}
+use Rattle.gates.specs.Mark.{isFirst, startOf}
 use Rattle.gates.specs.Ites.{inThree, other, isPaired, Half, halvesAt, half, halves, allHalves, isAcross, output, side, isMate, mates, isSide, sideMark, Sided, isPlainHalf, pairsOf}
 use Rattle.gates.proofs.Threes.{around-in, in-three-is, is-in-three, start-around}
 
@@ -83,16 +82,14 @@ module _ (row : List ℕ) where
         after-is = rw g;
       }
 
-  pub unpaired : (p : ℕ) → inThree row p ≡ false → isPaired row p ≡ false
+  pub unpaired : (p : ℕ) → (inThree row p && isFirst row (startOf row p)) ≡ false → isPaired row p ≡ false
   unfolding isPaired
-  unpaired p h = rw h
+  unpaired p h = cases (inThree row p) (λ t. let f : isFirst row (startOf row p) ≡ false = rw t at h in rw (t, f)) (λ t. rw t)
 
-  pub paired-by : (p next after : ℕ) → inThree row p ≡ true → Others p next after
-      → isPaired row p
-      ≡ (present (clausesIn row) (getD row p 0 ∷ negate (getD row next 0) ∷ negate (getD row after 0) ∷ [])
-      && isAt (startOf row p) (placeOf row (getD row p 0 ∷ getD row next 0 ∷ getD row after 0 ∷ [])))
+  pub paired-by : (p next after : ℕ) → (inThree row p && isFirst row (startOf row p)) ≡ true → Others p next after
+      → isPaired row p ≡ present (clausesIn row) (getD row p 0 ∷ negate (getD row next 0) ∷ negate (getD row after 0) ∷ [])
   unfolding isPaired
-  paired-by p next after h o = rw (h, o .next-is, o .after-is)
+  paired-by p next after h o = let a = and-both (inThree row p) _ h in rw (a .0, a .1, o .next-is, o .after-is)
 
   -- The test of a mate, at a paired place
 

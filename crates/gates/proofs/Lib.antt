@@ -26,6 +26,8 @@ pub mod AndMarks
 pub mod XorMarks
 pub mod Marking
 pub mod Threes
+pub mod ClauseKinds
+pub mod Twos
 pub mod HalfChains
 pub mod Halves
 pub mod Sides

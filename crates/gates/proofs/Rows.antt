@@ -126,6 +126,14 @@ starts-apart row b p s l = go (decLt (b + length (clauseAt row b)) p) (s .behind
     go (no n) (inl e) = absurd (omega arith)
     go (no n) (inr e) = absurd (literal-some row b (p - 1) (omega arith) (omega arith) e)
 
+-- .. so one that starts before its end, if it is another one, starts before it
+pub starts-before : (row : List ℕ) (b a : ℕ) → Starts row a → a < b + length (clauseAt row b) + 1 → a ≢ b → a < b
+starts-before row b a s h n = go (decLt b a)
+  where
+    go : Dec (b < a) → a < b
+    go (yes l) = absurd (omega (arith, starts-apart row b a s l))
+    go (no m) = omega arith
+
 -- The places of a clause and its literals
 
 pub record Placed (l : List ℕ) (x : ℕ) : Type 0 where

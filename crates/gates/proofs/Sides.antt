@@ -2,16 +2,14 @@
 -- Assumes nothing.
 use mathlib.Core.Path.{_≡_, refl, sym, _∙_, ap, subst, subst⁻¹}
 use mathlib.Core.Logic.{_≢_, _⊎_, inl, inr}
-use mathlib.Core.Bool.{Bool, true, false, not, false≢true, true≢false}
+use mathlib.Core.Bool.{Bool, true, false, not, true≢false}
 use mathlib.Core.List.{List, [], _∷_, List·Memᴰ·head, List·Memᴰ·tail, Memᴰ·cast, List·Memᴰ·not-nil}
 use Prim.Native.Nat.{ℕ, _+_, _≤_, _<_}
 use native.Mathlib.Omega.{arith}
 use native.Mathlib.Decide.{ℕ-discrete}
-use borrow.Author.Tests.{eq-eqb, eqb-true}
 use lib.ListN.{length, getD}
 use Rattle.clauses.specs.Code.{negate, net}
 use Rattle.clauses.specs.Clause.{clausesIn, Mem, Within, Same, Tautology, Present}
-use Rattle.clauses.specs.Listing.{present}
 use Rattle.clauses.proofs.Lists.{and-both, both-and}
 use Rattle.clauses.proofs.Distinct.{Distinct, empty, more}
 use Rattle.clauses.proofs.Codes.{negate-negate, same-net}
@@ -21,13 +19,13 @@ use Rattle.gates.specs.Gate.{Apart, IteGate}
 use Rattle.gates.specs.Found.{clauseAt, around, Starts, LiteralAt}
 use Rattle.gates.specs.Search.{placeOf}
 use Rattle.gates.specs.Normal.{Normal}
-use Rattle.gates.specs.Mark.{isAt, startOf}
+use Rattle.gates.specs.Mark.{isFirst, startOf}
 use Rattle.gates.specs.Ites.{inThree, other, isPaired}
 use Rattle.gates.specs.declared.search.Place.{Place}
 use Rattle.gates.specs.declared.search.Place.the-variants.{At, Nothing}
-use Rattle.gates.proofs.Rows.{LiteralOf, literal-of, starts-listed}
-use Rattle.gates.proofs.Places.{First, place-first, first-only, first-place, nothing-present}
-use Rattle.gates.proofs.Firsts.{first-same}
+use Rattle.gates.proofs.Rows.{LiteralOf, literal-in, literal-of, starts-listed}
+use Rattle.gates.proofs.Places.{First, place-first, first-only, nothing-present}
+use Rattle.gates.proofs.Firsts.{first-same, first-is, is-first}
 use Rattle.gates.proofs.Marks.{clause-distinct}
 use Rattle.gates.proofs.Threes.{Three, InThree, in-three-is, is-in-three, start-in-three, around-in, around-apart}
 
@@ -129,19 +127,47 @@ ite-sides {cs} {l} {c} {t} {e} g = go (g .apart)
 
 -- The halves of a row
 
-is-at : (b : ℕ) (q : Place) → isAt b q ≡ true → q ≡ At b
-unfolding isAt
-is-at b (At a) h = ap At (eqb-true a b h)
-is-at b Nothing h = absurd (false≢true h)
-
-at-is : (b : ℕ) (q : Place) → q ≡ At b → isAt b q ≡ true
-unfolding isAt
-at-is b q e = rw e (eq-eqb b b refl)
-
 module _ {row : List ℕ} (normal : Normal row) where
   -- the literal at a place of a clause of three, with the other two
   abbrev clause-of : ℕ → List ℕ
   clause-of p = getD row p 0 ∷ other row p false ∷ other row p true ∷ []
+
+  literal-here : (b q : ℕ) → Starts row b → Three row b → b ≤ q → q < b + 3 → LiteralAt row b q
+  literal-here b q s t l u = record { start = s; low = l; high = omega (arith, t .size) }
+
+  -- the places around are all of the clause
+  around-same : (p : ℕ) → InThree row p → Starts row (startOf row p) → Same (clause-of p) (clauseAt row (startOf row p))
+  unfolding other
+  around-same p t s =
+      record {
+        left = within-three _ _ _ _ (here p (t .low) (t .high)) (here next (r .0) (r .1)) (here after (u .0) (u .1));
+        right = λ x m. let l = literal-of row b s x m in back x (l .place) (l .is) (l .at .low) (omega (arith, l .at .high, t .clause .size)) (ℕ-discrete (l .place) p) (ℕ-discrete (l .place) next);
+      }
+    where
+      b : ℕ
+      b = startOf row p
+
+      next : ℕ
+      next = around b p
+
+      after : ℕ
+      after = around b (around b p)
+
+      r : (b ≤ next) × (next < b + 3)
+      r = around-in b p (t .low) (t .high)
+
+      u : (b ≤ after) × (after < b + 3)
+      u = around-in b next (r .0) (r .1)
+
+      here : (q : ℕ) → b ≤ q → q < b + 3 → Mem (getD row q 0) (clauseAt row b)
+      here q l h = literal-in row b q (literal-here b q s (t .clause) l h)
+
+      back : (x q : ℕ) → getD row q 0 ≡ x → b ≤ q → q < b + 3 → Dec (q ≡ p) → Dec (q ≡ next) → Mem x (clause-of p)
+      back x q e l h (yes i) d = Memᴰ·cast (sym e ∙ ap (λ (k : ℕ). getD row k 0) i) mem-one
+      back x q e l h (no m) (yes i) = Memᴰ·cast (sym e ∙ ap (λ (k : ℕ). getD row k 0) i) mem-two
+      back x q e l h (no m) (no n) =
+          let i : q ≡ after = omega (arith, r, u, t .low, t .high, around-apart b p (t .low) (t .high)) in
+          Memᴰ·cast (sym e ∙ ap (λ (k : ℕ). getD row k 0) i) mem-three
 
   record Paired (p : ℕ) : Type 0 where
     three : InThree row p
@@ -152,22 +178,24 @@ module _ {row : List ℕ} (normal : Normal row) where
   unfolding isPaired
   paired-is p h =
       let a = and-both (inThree row p) _ h in
-      let d = and-both (present (clausesIn row) (getD row p 0 ∷ negate (other row p false) ∷ negate (other row p true) ∷ [])) _ (a .1) in
-      record { three = in-three-is row p (a .0); clause = place-first row (clause-of p) (is-at _ _ (d .1)); companion = present-is _ _ (d .0) }
+      let d = and-both (isFirst row (startOf row p)) _ (a .1) in
+      let t = in-three-is row p (a .0) in
+      let f = first-is row (startOf row p) (d .0) in
+      record { three = t; clause = first-same row (same-sym (around-same p t (f .start))) f; companion = present-is _ _ (d .1) }
 
   is-paired : (p b : ℕ) → startOf row p ≡ b → inThree row p ≡ true → First row (clause-of p) b
       → Present (clausesIn row) (getD row p 0 ∷ negate (other row p false) ∷ negate (other row p true) ∷ []) → isPaired row p ≡ true
   unfolding isPaired
-  is-paired p b e h f k = rw e (both-and h (both-and (is-present _ _ k) (at-is b _ (first-place row (clause-of p) f))))
+  is-paired p b e h f k =
+      let t = in-three-is row p h in
+      let g = rw (← e) at f in
+      both-and h (both-and (is-first row (startOf row p) (first-same row (around-same p t (g .start)) g)) (is-present _ _ k))
 
   -- the clause of a paired place is present
   clause-present : (p : ℕ) → Paired p → Present (clausesIn row) (clause-of p)
   clause-present p k =
       let m = starts-listed row (startOf row p) (k .clause .start) in
       record { found = clauseAt row (startOf row p); listed = m; proper = normal .proper _ m; same = k .clause .same }
-
-  literal-here : (b q : ℕ) → Starts row b → Three row b → b ≤ q → q < b + 3 → LiteralAt row b q
-  literal-here b q s t l u = record { start = s; low = l; high = omega (arith, t .size) }
 
   pub half-literal : (p : ℕ) → isPaired row p ≡ true → LiteralAt row (startOf row p) p
   half-literal p h = let k = paired-is p h in literal-here (startOf row p) p (k .clause .start) (k .three .clause) (k .three .low) (k .three .high)

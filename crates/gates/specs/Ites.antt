@@ -13,8 +13,7 @@ use Rattle.clauses.specs.Lists.{keep, each}
 use Rattle.clauses.specs.Listing.{present}
 use Rattle.gates.specs.Sign.{isInverse}
 use Rattle.gates.specs.Found.{clauseAt, around}
-use Rattle.gates.specs.Search.{placeOf}
-use Rattle.gates.specs.Mark.{isAt, startOf}
+use Rattle.gates.specs.Mark.{isFirst, startOf}
 
 -- Pairs of clauses: (x, y, z) and (x, not y, not z)
 
@@ -31,8 +30,7 @@ other row p true = getD row (around (startOf row p) (around (startOf row p) p)) 
 -- the literal at p is true, then the other two are inverses of each other
 unfoldable pub isPaired : List ℕ → ℕ → Bool
 isPaired row p =
-    inThree row p && (present (clausesIn row) (getD row p 0 ∷ negate (other row p false) ∷ negate (other row p true) ∷ [])
-    && isAt (startOf row p) (placeOf row (getD row p 0 ∷ other row p false ∷ other row p true ∷ [])))
+    inThree row p && (isFirst row (startOf row p) && present (clausesIn row) (getD row p 0 ∷ negate (other row p false) ∷ negate (other row p true) ∷ []))
 
 -- Halves
 

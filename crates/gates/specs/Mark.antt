@@ -1,6 +1,7 @@
 -- Which literals and clauses of a row of codes the finder marks as ANDs, XORs and pairs; no entry point's contract cites these.
 -- Assumes nothing.
 use mathlib.Core.Path.{_≡_}
+use mathlib.Core.Logic.{_≢_}
 use mathlib.Core.Bool.{Bool, false, cond, not, _&&_, _||_}
 use mathlib.Core.List.{List, [], _∷_}
 use Prim.Native.Nat.{ℕ, zero, suc, _+_, _/_, _≤_, _<_}
@@ -12,8 +13,9 @@ use Rattle.clauses.specs.Lists.{all, keep, from}
 use Rattle.clauses.specs.Listing.{present}
 use Rattle.gates.specs.Sign.{plus, flip, isInverse}
 use Rattle.gates.specs.Listing.{signed}
-use Rattle.gates.specs.Found.{clauseAt}
+use Rattle.gates.specs.Found.{clauseAt, Starts, LiteralAt}
 use Rattle.gates.specs.Search.{placeOf}
+use Rattle.gates.specs.Normal.{maxCode}
 use Rattle.gates.specs.declared.search.Place.{Place}
 use Rattle.gates.specs.declared.search.Place.the-variants.{At, Nothing}
 
@@ -36,7 +38,21 @@ isFirst row b = isAt b (placeOf row (clauseAt row b))
 unfoldable pub isCandidate : List ℕ → ℕ → Bool
 isCandidate row b = leb 3 (length (clauseAt row b)) && isFirst row b
 
+-- 2 for a candidate of three literals, 1 for another one, 0 for any other clause
+unfoldable pub kindOf : List ℕ → ℕ → ℕ
+kindOf row b = cond (isCandidate row b) (cond (eqb (length (clauseAt row b)) 3) 2 1) 0
+
+-- the kinds of the clauses that start before place p, each where its clause starts
+pub record Kinds (row kinds : List ℕ) (p : ℕ) : Type 0 where
+  pub room : length row ≤ length kinds
+  pub at : (b : ℕ) → b < p → Starts row b → getD kinds b 0 ≡ kindOf row b
+
 -- ANDs
+
+-- a row with an entry for each code, that of a literal not 0 if a clause of two literals that starts before place p has it
+pub record Twos (row twos : List ℕ) (p : ℕ) : Type 0 where
+  pub room : maxCode < length twos
+  pub some : (b q : ℕ) → b < p → LiteralAt row b q → length (clauseAt row b) ≡ 2 → getD twos (getD row q 0) 0 ≢ 0
 
 -- l and the other literals of the clause c make an AND, if there are two others or more
 unfoldable pub givesAnd : List (List ℕ) → List ℕ → ℕ → Bool

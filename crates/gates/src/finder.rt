@@ -1,7 +1,9 @@
 // The gates of a clause list.
 
+use crate::and::list_twos;
 use crate::counts::Counts;
 use crate::fill::clear;
+use crate::first::list_kinds;
 use crate::ites::mark_ites;
 use crate::mark::mark_clauses;
 use crate::mark::mark_pairs;
@@ -9,7 +11,7 @@ use crate::prepare::prepare;
 ghost use mathlib.Core.Path.{_≡_};
 ghost use mathlib.Core.Logic.{_↔_};
 ghost use mathlib.Core.List.{List, map};
-ghost use Prim.Native.Nat.{ℕ, _-_, _≤_};
+ghost use Prim.Native.Nat.{ℕ, _-_, _≤_, _<_};
 ghost use lib.ListN.{length, getD, take, drop};
 ghost use lib.Seq.{sets};
 ghost use Rattle.clauses.specs.Limit.{maxEntries};
@@ -17,7 +19,7 @@ ghost use Rattle.clauses.specs.Code.{codeOf};
 ghost use Rattle.clauses.specs.Clause.{Present, clausesIn, clausesOf};
 ghost use Rattle.gates.specs.Counted.{AreCounts};
 ghost use Rattle.gates.specs.Found.{Found};
-ghost use Rattle.gates.specs.Normal.{Normal, normalRow, SmallEntries};
+ghost use Rattle.gates.specs.Normal.{Normal, normalRow, maxCode, SmallEntries};
 ghost use Rattle.gates.specs.Index.{Indexed};
 ghost use Rattle.gates.specs.Ites.{Room};
 
@@ -25,6 +27,7 @@ ghost use Rattle.gates.specs.Ites.{Room};
 fn mark_gates(
     codes: &[u32],
     index: &[u32],
+    kinds: &mut [u8],
     heads: &mut [u32],
     chain: &mut [u32],
     marks: &mut [u8],
@@ -32,6 +35,7 @@ fn mark_gates(
     requires { ⌜ Indexed (now codes) (now index) ⌝ }
     requires { ⌜ Normal (now codes) ⌝ }
     requires { ⌜ Room (now codes) (length (now heads)) (length (now chain)) ⌝ }
+    requires { ⌜ (length (now codes) ≤ length (now kinds)) × (maxCode < length (now heads)) ⌝ }
     requires { ⌜ length (now marks) ≡ length (now codes) ⌝ }
     ensures { λ r. ⌜ ((cs : List (List ℕ)) → ((c : List ℕ) → Present cs c ↔ Present (clausesIn (now (codes .entry))) c)
         → Found cs (now (codes .entry)) (now (marks .exit)) × AreCounts cs (r .ands) (r .xors) (r .ites)) ⌝ }
@@ -42,8 +46,10 @@ fn mark_gates(
         xors: 0,
         ites: 0,
     };
-    let found = mark_clauses(codes, index, marks, none);
-    let all = mark_ites(codes, index, heads, chain, marks, found);
+    list_kinds(codes, index, kinds);
+    list_twos(codes, heads);
+    let found = mark_clauses(codes, index, kinds, heads, marks, none);
+    let all = mark_ites(codes, index, kinds, heads, chain, marks, found);
     mark_pairs(codes, index, marks);
     all
 }
@@ -55,7 +61,7 @@ pub struct Finding {
 }
 
 // Writes the normal form of a row at the start of the codes, and the marks of its gates at the start of the marks. Besides what
-// is lent it uses 61,440 numbers of its own, 245,760 bytes.
+// is lent it uses 61,440 numbers and 16,384 bytes of its own, 256 KB.
 pub fn find_gates(row: &[i32], codes: &mut [u32], marks: &mut [u8]) -> Finding
     requires { ⌜ length (now row) ≤ maxEntries ⌝ }
     requires { ⌜ length (now row) ≤ length (now codes) ⌝ }
@@ -69,10 +75,18 @@ pub fn find_gates(row: &[i32], codes: &mut [u32], marks: &mut [u8]) -> Finding
     ensures { λ r. ⌜ AreCounts (clausesOf (now (row .entry))) (r .counts .ands) (r .counts .xors) (r .counts .ites) ⌝ }
 {
     let mut index = [0u32; 20480];
+    let mut kinds = [0u8; 16384];
     let mut heads = [0u32; 8192];
     let mut chain = [0u32; 32768];
     let n = prepare(row, codes, &mut index, &mut heads);
-    let counts = mark_gates(&codes[..n], &index, &mut heads, &mut chain, &mut marks[..n]);
+    let counts = mark_gates(
+        &codes[..n],
+        &index,
+        &mut kinds,
+        &mut heads,
+        &mut chain,
+        &mut marks[..n],
+    );
     Finding {
         entries: n,
         counts: counts,

@@ -1,14 +1,18 @@
 // The clauses of a row of codes that stand for their set.
 
 ghost use mathlib.Core.Path.{_≡_};
+ghost use Prim.Native.Nat.{_≤_};
+ghost use lib.ListN.{length};
 ghost use Rattle.gates.specs.Search.{placeOf};
 ghost use Rattle.gates.specs.Index.{Indexed};
-ghost use Rattle.gates.specs.Mark.{Spans, isAt, isCandidate};
+ghost use Rattle.gates.specs.Normal.{Normal};
+ghost use Rattle.gates.specs.Mark.{Spans, isAt, isCandidate, kindOf, Kinds};
 use crate::search::Place;
 use crate::search::find;
+use crate::walk::clause_end;
 
 // Whether the first clause with the literals of q starts at b.
-pub fn is_found_at(codes: &[u32], index: &[u32], q: &[u32], b: usize) -> bool
+fn is_found_at(codes: &[u32], index: &[u32], q: &[u32], b: usize) -> bool
     requires { ⌜ Indexed (now codes) (now index) ⌝ }
     ensures { λ r. ⌜ r ≡ isAt b (placeOf (now (codes .entry)) (now (q .entry))) ⌝ }
 {
@@ -19,7 +23,7 @@ pub fn is_found_at(codes: &[u32], index: &[u32], q: &[u32], b: usize) -> bool
 }
 
 // Whether the clause from b to end has three literals or more and is the first of its set.
-pub fn is_candidate(codes: &[u32], index: &[u32], b: usize, end: usize) -> bool
+fn is_candidate(codes: &[u32], index: &[u32], b: usize, end: usize) -> bool
     requires { ⌜ Indexed (now codes) (now index) ⌝ }
     requires { ⌜ Spans (now codes) b end ⌝ }
     ensures { λ r. ⌜ r ≡ isCandidate (now (codes .entry)) b ⌝ }
@@ -28,4 +32,34 @@ pub fn is_candidate(codes: &[u32], index: &[u32], b: usize, end: usize) -> bool
         return false;
     }
     is_found_at(codes, index, &codes[b..end], b)
+}
+
+// 2 for a clause of these that has three literals, 1 for another one, 0 for any other clause.
+fn kind_of(codes: &[u32], index: &[u32], b: usize, end: usize) -> u8
+    requires { ⌜ Indexed (now codes) (now index) ⌝ }
+    requires { ⌜ Spans (now codes) b end ⌝ }
+    ensures { λ r. ⌜ r ≡ kindOf (now (codes .entry)) b ⌝ }
+{
+    if !is_candidate(codes, index, b, end) {
+        return 0;
+    }
+    if end - b == 3 {
+        return 2;
+    }
+    1
+}
+
+// Writes the kinds of all clauses, each where its clause starts.
+pub fn list_kinds(codes: &[u32], index: &[u32], kinds: &mut [u8])
+    requires { ⌜ Indexed (now codes) (now index) ⌝ }
+    requires { ⌜ Normal (now codes) ⌝ }
+    requires { ⌜ length (now codes) ≤ length (now kinds) ⌝ }
+    ensures { λ _. ⌜ Kinds (now (codes .entry)) (now (kinds .exit)) (length (now (codes .entry))) ⌝ }
+{
+    let mut b = 0;
+    while b < codes.len() {
+        let end = clause_end(codes, b);
+        kinds[b] = kind_of(codes, index, b, end);
+        b = end + 1;
+    }
 }

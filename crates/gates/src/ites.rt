@@ -9,17 +9,14 @@ ghost use Rattle.clauses.specs.Code.{net};
 ghost use Rattle.clauses.specs.Lists.{keep};
 ghost use Rattle.gates.specs.Sign.{isInverse};
 ghost use Rattle.gates.specs.Found.{around};
-ghost use Rattle.gates.specs.Search.{Proper};
 ghost use Rattle.gates.specs.Normal.{Normal, maxCode};
 ghost use Rattle.gates.specs.Index.{Indexed};
-ghost use Rattle.gates.specs.Mark.{startOf};
+ghost use Rattle.gates.specs.Mark.{isFirst, Kinds, startOf};
 ghost use Rattle.gates.specs.Ites.{inThree, isPaired, halvesAt, half, allHalves, output, isMate, sideMark, Sided, pairsOf, halfBucket, Chained, Room};
 use crate::counts::Counts;
 use crate::fill::fill;
-use crate::first::is_found_at;
 use crate::literal::inverse;
 use crate::search::is_present;
-use crate::walk::clause_end;
 
 // The place after p in its clause of three literals, the first one coming after the last.
 fn next_place(codes: &[u32], p: usize) -> usize
@@ -44,49 +41,36 @@ fn next_start(codes: &[u32], b: usize, p: usize) -> usize
     b
 }
 
-// Whether p is a place of a clause of three literals that ends in the row; b is where its clause starts.
-fn is_in_three(codes: &[u32], b: usize, p: usize) -> bool
-    requires { ⌜ p < length (now codes) ⌝ }
-    requires { ⌜ b ≡ startOf (now codes) p ⌝ }
-    ensures { λ r. ⌜ r ≡ inThree (now (codes .entry)) p ⌝ }
+// Whether p is a place of a clause of three literals that is the first of its set; b is where its clause starts.
+fn is_in_first_three(codes: &[u32], kinds: &[u8], b: usize, p: usize) -> bool
+    requires { ⌜ Normal (now codes) ⌝ }
+    requires { ⌜ Kinds (now codes) (now kinds) (length (now codes)) ⌝ }
+    requires { ⌜ (p < length (now codes)) × (b ≡ startOf (now codes) p) ⌝ }
+    ensures { λ r. ⌜ r ≡ (inThree (now (codes .entry)) p && isFirst (now (codes .entry)) b) ⌝ }
 {
-    let e = b + 3;
-    if e <= p {
+    if kinds[b] != 2 {
         return false;
     }
-    if codes.len() <= e {
-        return false;
-    }
-    if clause_end(codes, b) != e {
-        return false;
-    }
-    true
+    codes[p] != 0
 }
 
 // Whether the clause of place p has three literals and is the first with them, and the clause with the other two inverted is present.
-fn is_paired(codes: &[u32], index: &[u32], b: usize, p: usize) -> bool
+fn is_paired(codes: &[u32], index: &[u32], kinds: &[u8], b: usize, p: usize) -> bool
     requires { ⌜ Indexed (now codes) (now index) ⌝ }
-    requires { ⌜ Proper (now codes) ⌝ }
-    requires { ⌜ p < length (now codes) ⌝ }
-    requires { ⌜ b ≡ startOf (now codes) p ⌝ }
+    requires { ⌜ Normal (now codes) ⌝ }
+    requires { ⌜ Kinds (now codes) (now kinds) (length (now codes)) ⌝ }
+    requires { ⌜ (p < length (now codes)) × (b ≡ startOf (now codes) p) ⌝ }
     ensures { λ r. ⌜ r ≡ isPaired (now (codes .entry)) p ⌝ }
 {
-    if !is_in_three(codes, b, p) {
+    if !is_in_first_three(codes, kinds, b, p) {
         return false;
     }
     let next = next_place(codes, p);
     let after = next_place(codes, next);
-    let x = codes[p];
-    let y = codes[next];
-    let z = codes[after];
-    let not_y = inverse(y);
-    let not_z = inverse(z);
-    let companion = [x, not_y, not_z];
-    if !is_present(codes, index, &companion) {
-        return false;
-    }
-    let clause = [x, y, z];
-    is_found_at(codes, index, &clause, b)
+    let not_y = inverse(codes[next]);
+    let not_z = inverse(codes[after]);
+    let companion = [codes[p], not_y, not_z];
+    is_present(codes, index, &companion)
 }
 
 // The bucket, of m, of the halves with literal x and the output whose inverse is y.
@@ -117,6 +101,7 @@ fn link(codes: &[u32], j: usize, x: u32, y: u32, heads: &mut [u32], chain: &mut 
 fn link_place(
     codes: &[u32],
     index: &[u32],
+    kinds: &[u8],
     b: usize,
     p: usize,
     heads: &mut [u32],
@@ -124,12 +109,13 @@ fn link_place(
 )
     requires { ⌜ Indexed (now codes) (now index) ⌝ }
     requires { ⌜ Normal (now codes) ⌝ }
+    requires { ⌜ Kinds (now codes) (now kinds) (length (now codes)) ⌝ }
     requires { ⌜ (p < length (now codes)) × (b ≡ startOf (now codes) p) ⌝ }
     requires { ⌜ Room (now codes) (length (now heads)) (length (now chain)) ⌝ }
     requires { ⌜ Chained (now codes) (length (now heads)) (2 * p) (now heads) (now chain) ⌝ }
     ensures { λ _. ⌜ Chained (now (codes .entry)) (length (now (heads .entry))) (2 * (p + 1)) (now (heads .exit)) (now (chain .exit)) ⌝ }
 {
-    if is_paired(codes, index, b, p) {
+    if is_paired(codes, index, kinds, b, p) {
         let next = next_place(codes, p);
         let after = next_place(codes, next);
         let x = codes[p];
@@ -144,9 +130,10 @@ fn link_place(
 }
 
 // The chains of the halves at paired places.
-fn chain_paired(codes: &[u32], index: &[u32], heads: &mut [u32], chain: &mut [u32])
+fn chain_paired(codes: &[u32], index: &[u32], kinds: &[u8], heads: &mut [u32], chain: &mut [u32])
     requires { ⌜ Indexed (now codes) (now index) ⌝ }
     requires { ⌜ Normal (now codes) ⌝ }
+    requires { ⌜ Kinds (now codes) (now kinds) (length (now codes)) ⌝ }
     requires { ⌜ Room (now codes) (length (now heads)) (length (now chain)) ⌝ }
     ensures { λ _. ⌜ Chained (now (codes .entry)) (length (now (heads .entry))) (2 * length (now (codes .entry))) (now (heads .exit)) (now (chain .exit)) ⌝ }
 {
@@ -154,7 +141,7 @@ fn chain_paired(codes: &[u32], index: &[u32], heads: &mut [u32], chain: &mut [u3
     let mut b = 0;
     let mut p = 0;
     while p < codes.len() {
-        link_place(codes, index, b, p, heads, chain);
+        link_place(codes, index, kinds, b, p, heads, chain);
         b = next_start(codes, b, p);
         p += 1;
     }
@@ -305,6 +292,7 @@ fn mark_sides(
 pub fn mark_ites(
     codes: &[u32],
     index: &[u32],
+    kinds: &[u8],
     heads: &mut [u32],
     chain: &mut [u32],
     marks: &mut [u8],
@@ -312,6 +300,7 @@ pub fn mark_ites(
 ) -> Counts
     requires { ⌜ Indexed (now codes) (now index) ⌝ }
     requires { ⌜ Normal (now codes) ⌝ }
+    requires { ⌜ Kinds (now codes) (now kinds) (length (now codes)) ⌝ }
     requires { ⌜ Room (now codes) (length (now heads)) (length (now chain)) ⌝ }
     requires { ⌜ (length (now codes) ≤ length (now marks)) × ((p : ℕ) → getD (now marks) p 0 < 2) ⌝ }
     requires { ⌜ counts .ites ≡ 0 ⌝ }
@@ -319,6 +308,6 @@ pub fn mark_ites(
     ensures { λ r. ⌜ r .ites ≡ length (pairsOf (now (codes .entry)) (allHalves (now (codes .entry)))) ⌝ }
     ensures { λ _. ⌜ Sided (now (codes .entry)) (now (marks .entry)) (now (marks .exit)) ⌝ }
 {
-    chain_paired(codes, index, heads, chain);
+    chain_paired(codes, index, kinds, heads, chain);
     mark_sides(codes, heads, chain, marks, counts)
 }

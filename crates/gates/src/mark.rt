@@ -7,11 +7,10 @@ ghost use lib.ListN.{length};
 ghost use Rattle.gates.specs.Found.{Starts, LiteralAt};
 ghost use Rattle.gates.specs.Normal.{Normal};
 ghost use Rattle.gates.specs.Index.{Indexed};
-ghost use Rattle.gates.specs.Mark.{Spans, isCandidate, marksPair, Marking, Pairing};
+ghost use Rattle.gates.specs.Mark.{Spans, isCandidate, Kinds, Twos, marksPair, Marking, Pairing};
 ghost use Rattle.gates.specs.Search.{Proper};
 use crate::and::is_and;
 use crate::counts::Counts;
-use crate::first::is_candidate;
 use crate::literal::inverse;
 use crate::search::is_present;
 use crate::walk::clause_end;
@@ -21,6 +20,7 @@ use crate::xor::is_xor;
 fn mark_literal(
     codes: &[u32],
     index: &[u32],
+    twos: &[u32],
     b: usize,
     end: usize,
     p: usize,
@@ -29,6 +29,7 @@ fn mark_literal(
 ) -> Counts
     requires { ⌜ Indexed (now codes) (now index) ⌝ }
     requires { ⌜ Normal (now codes) ⌝ }
+    requires { ⌜ Twos (now codes) (now twos) (length (now codes)) ⌝ }
     requires { ⌜ Spans (now codes) b end × (isCandidate (now codes) b ≡ true) ⌝ }
     requires { ⌜ LiteralAt (now codes) b p ⌝ }
     requires { ⌜ length (now marks) ≡ length (now codes) ⌝ }
@@ -36,7 +37,7 @@ fn mark_literal(
     ensures { λ r. ⌜ Marking (now (codes .entry)) (now (marks .exit)) (p + 1) (r .ands) (r .xors) ⌝ }
     ensures { λ r. ⌜ r .ites ≡ counts .ites ⌝ }
 {
-    if is_and(codes, index, b, end, p) {
+    if is_and(codes, index, twos, b, end, p) {
         marks[p] = 1;
         return counts.with_ands(1);
     }
@@ -72,6 +73,8 @@ fn mark_end(
 fn mark_clause(
     codes: &[u32],
     index: &[u32],
+    kinds: &[u8],
+    twos: &[u32],
     b: usize,
     end: usize,
     marks: &mut [u8],
@@ -79,6 +82,8 @@ fn mark_clause(
 ) -> Counts
     requires { ⌜ Indexed (now codes) (now index) ⌝ }
     requires { ⌜ Normal (now codes) ⌝ }
+    requires { ⌜ Kinds (now codes) (now kinds) (length (now codes)) ⌝ }
+    requires { ⌜ Twos (now codes) (now twos) (length (now codes)) ⌝ }
     requires { ⌜ Spans (now codes) b end ⌝ }
     requires { ⌜ Starts (now codes) b ⌝ }
     requires { ⌜ length (now marks) ≡ length (now codes) ⌝ }
@@ -86,22 +91,31 @@ fn mark_clause(
     ensures { λ r. ⌜ Marking (now (codes .entry)) (now (marks .exit)) (end + 1) (r .ands) (r .xors) ⌝ }
     ensures { λ r. ⌜ r .ites ≡ counts .ites ⌝ }
 {
-    if !is_candidate(codes, index, b, end) {
+    if kinds[b] == 0 {
         return counts;
     }
     let mut found = counts;
     let mut p = b;
     while p < end {
-        found = mark_literal(codes, index, b, end, p, marks, found);
+        found = mark_literal(codes, index, twos, b, end, p, marks, found);
         p += 1;
     }
     mark_end(codes, index, b, end, marks, found)
 }
 
 // Marks the ANDs and XORs of a row in marks that are all 0, and counts them.
-pub fn mark_clauses(codes: &[u32], index: &[u32], marks: &mut [u8], counts: Counts) -> Counts
+pub fn mark_clauses(
+    codes: &[u32],
+    index: &[u32],
+    kinds: &[u8],
+    twos: &[u32],
+    marks: &mut [u8],
+    counts: Counts,
+) -> Counts
     requires { ⌜ Indexed (now codes) (now index) ⌝ }
     requires { ⌜ Normal (now codes) ⌝ }
+    requires { ⌜ Kinds (now codes) (now kinds) (length (now codes)) ⌝ }
+    requires { ⌜ Twos (now codes) (now twos) (length (now codes)) ⌝ }
     requires { ⌜ length (now marks) ≡ length (now codes) ⌝ }
     requires { ⌜ Marking (now codes) (now marks) 0 (counts .ands) (counts .xors) ⌝ }
     ensures { λ r. ⌜ Marking (now (codes .entry)) (now (marks .exit)) (length (now (codes .entry))) (r .ands) (r .xors) ⌝ }
@@ -111,7 +125,7 @@ pub fn mark_clauses(codes: &[u32], index: &[u32], marks: &mut [u8], counts: Coun
     let mut b = 0;
     while b < codes.len() {
         let end = clause_end(codes, b);
-        found = mark_clause(codes, index, b, end, marks, found);
+        found = mark_clause(codes, index, kinds, twos, b, end, marks, found);
         b = end + 1;
     }
     found

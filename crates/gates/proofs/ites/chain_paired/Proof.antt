@@ -12,22 +12,22 @@ use Rattle.gates.proofs.ites.chain_paired.Statement.{statement}
 use Rattle.gates.proofs.ites.chain_paired.Tie as tie
 
 abbrev Inv-loop : tie.InvT-loop
-Inv-loop codes index heads₀ chain₀ b₀ p₀ heads chain b p =
+Inv-loop codes index kinds heads₀ chain₀ b₀ p₀ heads chain b p =
     (length heads ≡ length heads₀) × (length chain ≡ length chain₀) × (p ≤ length codes) × (b ≡ startOf codes p) × Chained codes (length heads₀) (2 * p) heads chain
 
 abbrev μ-loop : tie.MeasureT-loop
-μ-loop codes index heads₀ chain₀ b₀ p₀ heads chain b p = length codes - p
+μ-loop codes index kinds heads₀ chain₀ b₀ p₀ heads chain b p = length codes - p
 
 fill-requires : tie.Need-fill-requires Inv-loop μ-loop
 fill-requires c κs = tt
 
 loop-holds : tie.Need-loop-holds Inv-loop μ-loop
 unfolding startOf
-loop-holds c = (refl, refl, omega arith, refl, no-chain _ _ _ _ (length (now (c .before .before .before .before .before .before .before .before .args .heads))) (c .before .before .fill .ensures))
+loop-holds c = (refl, refl, omega arith, refl, no-chain _ _ _ _ (length (now (c .before .before .before .before .before .before .before .before .before .args .heads))) (c .before .before .fill .ensures))
 
 link-place-requires : tie.Need-link-place-requires Inv-loop μ-loop
 link-place-requires c κs =
-    (c .before .before .before .before .before .before .before .before .before .before .before .before .pre .0, (c .before .before .before .before .before .before .before .before .before .before .before .before .pre .1 .0, ((omega (arith, c .before .before .loop-test .taken), c .before .before .before .loop .inv .3), (rw (c .before .before .before .loop .inv .0, c .before .before .before .before .before .before .fill .kept .0, c .before .before .before .loop .inv .1) (c .before .before .before .before .before .before .before .before .before .before .before .before .pre .1 .1), rw (c .before .before .before .loop .inv .0) (c .before .before .before .loop .inv .4)))))
+    (c .before .before .before .before .before .before .before .before .before .before .before .before .before .pre .0, (c .before .before .before .before .before .before .before .before .before .before .before .before .before .pre .1 .0, (c .before .before .before .before .before .before .before .before .before .before .before .before .before .pre .1 .1 .0, ((omega (arith, c .before .before .loop-test .taken), c .before .before .before .loop .inv .3), (rw (c .before .before .before .loop .inv .0, c .before .before .before .before .before .before .fill .kept .0, c .before .before .before .loop .inv .1) (c .before .before .before .before .before .before .before .before .before .before .before .before .before .pre .1 .1 .1), rw (c .before .before .before .loop .inv .0) (c .before .before .before .loop .inv .4))))))
 
 next-start-requires : tie.Need-next-start-requires Inv-loop μ-loop
 next-start-requires c κs = (omega (arith, c .before .before .before .before .before .before .before .loop-test .taken), c .before .before .before .before .before .before .before .before .loop .inv .3)
@@ -40,8 +40,8 @@ loop-less c = omega (arith, c .before .before .before .before .before .before .b
 
 loop-again : tie.Need-loop-again Inv-loop μ-loop
 loop-again c = (
-  c .before .before .before .before .before .link-place .kept .1 .1 .1 .1 .0 ∙ c .before .before .before .before .before .before .before .before .before .loop .inv .0,
-  c .before .before .before .before .before .link-place .kept .1 .1 .1 .1 .1 .0 ∙ c .before .before .before .before .before .before .before .before .before .loop .inv .1,
+  c .before .before .before .before .before .link-place .kept .1 .1 .1 .1 .1 .0 ∙ c .before .before .before .before .before .before .before .before .before .loop .inv .0,
+  c .before .before .before .before .before .link-place .kept .1 .1 .1 .1 .1 .1 .0 ∙ c .before .before .before .before .before .before .before .before .before .loop .inv .1,
   omega (arith, c .before .before .before .before .before .before .before .before .loop-test .taken),
   c .next-start .ensures,
   rw (← c .before .before .before .before .before .before .before .before .before .loop .inv .0) (c .before .before .before .before .before .link-place .ensures),
@@ -54,7 +54,7 @@ same-length-2 : tie.Need-same-length-2 Inv-loop μ-loop
 same-length-2 c = c .before .loop .inv .1
 
 returns : tie.Need-returns Inv-loop μ-loop
-returns c = let z : c .before .loop .p ≡ length (now (c .before .before .before .before .before .before .before .before .before .before .args .codes)) = omega (arith, c .loop-test .left, c .before .loop .inv .2) in rw (z, c .before .before .before .before .fill .kept .0) at (c .before .loop .inv .4)
+returns c = let z : c .before .loop .p ≡ length (now (c .before .before .before .before .before .before .before .before .before .before .before .args .codes)) = omega (arith, c .loop-test .left, c .before .loop .inv .2) in rw (z, c .before .before .before .before .fill .kept .0) at (c .before .loop .inv .4)
 
 pub chain-paired-spec : {M : Type 1} → statement M
 chain-paired-spec =

@@ -13,14 +13,14 @@ use Rattle.gates.proofs.Halves.{paired-in-three, next-in-three, Others,
 use Rattle.gates.proofs.ites.link_place.Statement.{statement}
 use Rattle.gates.proofs.ites.link_place.Tie as tie
 
-paired : (c : tie.Then1) → isPaired (now (c .before .before .before .before .before .before .args .codes)) (c .before .before .before .before .before .before .args .p) ≡ true
+paired : (c : tie.Then1) → isPaired (now (c .before .before .before .before .before .before .before .args .codes)) (c .before .before .before .before .before .before .before .args .p) ≡ true
 paired c = sym (c .before .is-paired .ensures) ∙ c .if1 .taken
 
-found : (c : tie.After-next-place2) → Others (now (c .before .before .before .before .before .before .before .before .args .codes)) (c .before .before .before .before .before .before .before .before .args .p) (c .before .next-place .result) (c .next-place2 .result)
+found : (c : tie.After-next-place2) → Others (now (c .before .before .before .before .before .before .before .before .before .args .codes)) (c .before .before .before .before .before .before .before .before .before .args .p) (c .before .next-place .result) (c .next-place2 .result)
 found c = others _ _ _ _ (paired-in-three _ _ (paired (c .before .before))) (c .before .next-place .ensures) (c .next-place2 .ensures)
 
 is-paired-requires : tie.Need-is-paired-requires
-is-paired-requires c κs = (c .before .before .before .before .pre .0, (c .before .before .before .before .pre .1 .0 .proper, c .before .before .before .before .pre .1 .1 .0))
+is-paired-requires c κs = (c .before .before .before .before .before .pre .0, (c .before .before .before .before .before .pre .1 .0, (c .before .before .before .before .before .pre .1 .1 .0, c .before .before .before .before .before .pre .1 .1 .1 .0)))
 
 next-place-requires : tie.Need-next-place-requires
 next-place-requires c κs = paired-in-three _ _ (paired c)
@@ -35,13 +35,13 @@ shared-slice-read-x : tie.Need-shared-slice-read-x
 shared-slice-read-x c = search needs
 
 mul-y : tie.Need-mul-y
-mul-y c = omega (arith, found (c .before) .next-in, c .before .before .before .before .before .before .before .before .before .good)
+mul-y c = omega (arith, found (c .before) .next-in, c .before .before .before .before .before .before .before .before .before .before .good)
 
 shared-slice-read-y : tie.Need-shared-slice-read-y
 shared-slice-read-y c = found (c .before .before) .next-in
 
 mul-z : tie.Need-mul-z
-mul-z c = omega (arith, found (c .before .before) .after-in, c .before .before .before .before .before .before .before .before .before .before .good)
+mul-z c = omega (arith, found (c .before .before) .after-in, c .before .before .before .before .before .before .before .before .before .before .before .good)
 
 shared-slice-read-z : tie.Need-shared-slice-read-z
 shared-slice-read-z c = found (c .before .before .before) .after-in
@@ -51,8 +51,8 @@ mul-link c = search needs
 
 link-requires : tie.Need-link-requires
 link-requires c κs =
-    let e : 2 * c .before .before .before .before .before .before .before .before .before .before .before .before .before .args .p / 2 ≡ c .before .before .before .before .before .before .before .before .before .before .before .before .before .args .p = omega arith in
-    (c .before .before .before .before .before .before .before .before .before .before .before .before .before .pre .1 .0, (c .before .before .before .before .before .before .before .before .before .before .before .before .before .pre .1 .1 .1 .0, (c .before .before .before .before .before .before .before .before .before .before .before .before .before .pre .1 .1 .1 .1, ((omega (arith, c .before .before .before .before .before .before .before .before .before .before .before .before .before .pre .1 .1 .0 .0), rw e (paired (c .before .before .before .before .before .before .before))), (rw e, even-output _ _ _ _ (found (c .before .before .before .before .before)))))))
+    let e : 2 * c .before .before .before .before .before .before .before .before .before .before .before .before .before .before .args .p / 2 ≡ c .before .before .before .before .before .before .before .before .before .before .before .before .before .before .args .p = omega arith in
+    (c .before .before .before .before .before .before .before .before .before .before .before .before .before .before .pre .1 .0, (c .before .before .before .before .before .before .before .before .before .before .before .before .before .before .pre .1 .1 .1 .1 .0, (c .before .before .before .before .before .before .before .before .before .before .before .before .before .before .pre .1 .1 .1 .1 .1, ((omega (arith, c .before .before .before .before .before .before .before .before .before .before .before .before .before .before .pre .1 .1 .1 .0 .0), rw e (paired (c .before .before .before .before .before .before .before))), (rw e, even-output _ _ _ _ (found (c .before .before .before .before .before)))))))
 
 mul-link-2 : tie.Need-mul-link-2
 mul-link-2 c = search needs
@@ -62,8 +62,8 @@ add-link c = search needs
 
 link-requires-2 : tie.Need-link-requires-2
 link-requires-2 c κs =
-    let e : (2 * c .before .before .before .before .before .before .before .before .before .before .before .before .before .before .before .before .before .before .before .before .args .p + 1) / 2 ≡ c .before .before .before .before .before .before .before .before .before .before .before .before .before .before .before .before .before .before .before .before .args .p = omega arith in
-    (c .before .before .before .before .before .before .before .before .before .before .before .before .before .before .before .before .before .before .before .before .pre .1 .0, (rw (c .before .before .before .before .before .before .link .kept .1 .1 .1 .1 .0, c .before .before .before .before .before .before .link .kept .1 .1 .1 .1 .1 .0) (c .before .before .before .before .before .before .before .before .before .before .before .before .before .before .before .before .before .before .before .before .pre .1 .1 .1 .0), (rw (c .before .before .before .before .before .before .link .kept .1 .1 .1 .1 .0) (c .before .before .before .before .before .before .link .ensures), ((omega (arith, c .before .before .before .before .before .before .before .before .before .before .before .before .before .before .before .before .before .before .before .before .pre .1 .1 .0 .0), rw e (paired (c .before .before .before .before .before .before .before .before .before .before .before .before .before .before))), (rw e, odd-output _ _ _ _ (found (c .before .before .before .before .before .before .before .before .before .before .before .before)))))))
+    let e : (2 * c .before .before .before .before .before .before .before .before .before .before .before .before .before .before .before .before .before .before .before .before .before .args .p + 1) / 2 ≡ c .before .before .before .before .before .before .before .before .before .before .before .before .before .before .before .before .before .before .before .before .before .args .p = omega arith in
+    (c .before .before .before .before .before .before .before .before .before .before .before .before .before .before .before .before .before .before .before .before .before .pre .1 .0, (rw (c .before .before .before .before .before .before .link .kept .1 .1 .1 .1 .0, c .before .before .before .before .before .before .link .kept .1 .1 .1 .1 .1 .0) (c .before .before .before .before .before .before .before .before .before .before .before .before .before .before .before .before .before .before .before .before .before .pre .1 .1 .1 .1 .0), (rw (c .before .before .before .before .before .before .link .kept .1 .1 .1 .1 .0) (c .before .before .before .before .before .before .link .ensures), ((omega (arith, c .before .before .before .before .before .before .before .before .before .before .before .before .before .before .before .before .before .before .before .before .before .pre .1 .1 .1 .0 .0), rw e (paired (c .before .before .before .before .before .before .before .before .before .before .before .before .before .before))), (rw e, odd-output _ _ _ _ (found (c .before .before .before .before .before .before .before .before .before .before .before .before)))))))
 
 mul-chain : tie.Need-mul-chain
 mul-chain c = search needs
@@ -84,7 +84,7 @@ mul-chain-4 : tie.Need-mul-chain-4
 mul-chain-4 c = search needs
 
 slice-write-chain-2 : tie.Need-slice-write-chain-2
-slice-write-chain-2 c = rw length-set (omega (arith, c .before .before .before .before .before .before .pre .1 .1 .0 .0, c .before .before .before .before .before .before .pre .1 .1 .1 .0 .numbers))
+slice-write-chain-2 c = rw length-set (omega (arith, c .before .before .before .before .before .before .before .pre .1 .1 .1 .0 .0, c .before .before .before .before .before .before .before .pre .1 .1 .1 .1 .0 .numbers))
 
 same-length : tie.Need-same-length
 same-length c = search needs
@@ -94,14 +94,14 @@ same-length-2 c = search needs
 
 returns : tie.Need-returns
 returns c =
-    let e : 2 * (c .before .before .before .before .before .before .before .before .before .before .before .before .before .before .before .before .before .before .before .before .before .before .before .before .before .args .p + 1) ≡ 2 * c .before .before .before .before .before .before .before .before .before .before .before .before .before .before .before .before .before .before .before .before .before .before .before .before .before .args .p + 1 + 1 = omega arith in
+    let e : 2 * (c .before .before .before .before .before .before .before .before .before .before .before .before .before .before .before .before .before .before .before .before .before .before .before .before .before .before .args .p + 1) ≡ 2 * c .before .before .before .before .before .before .before .before .before .before .before .before .before .before .before .before .before .before .before .before .before .before .before .before .before .before .args .p + 1 + 1 = omega arith in
     rw (e, ← c .before .before .before .before .before .before .before .before .before .before .before .link .kept .1 .1 .1 .1 .0) (c .before .before .before .before .link2 .ensures)
 
 same-length-3 : tie.Need-same-length-3
 same-length-3 c = search needs
 
 returns-2 : tie.Need-returns-2
-returns-2 c = passed-both _ _ _ _ _ (c .before .before .before .before .before .before .pre .1 .1 .1 .1) (omega (arith, c .before .before .before .before .before .before .pre .1 .1 .0 .0, c .before .before .before .before .before .before .pre .1 .1 .1 .0 .numbers)) (sym (c .before .is-paired .ensures) ∙ c .if1 .left)
+returns-2 c = passed-both _ _ _ _ _ (c .before .before .before .before .before .before .before .pre .1 .1 .1 .1 .1) (omega (arith, c .before .before .before .before .before .before .before .pre .1 .1 .1 .0 .0, c .before .before .before .before .before .before .before .pre .1 .1 .1 .1 .0 .numbers)) (sym (c .before .is-paired .ensures) ∙ c .if1 .left)
 
 pub link-place-spec : {M : Type 1} → statement M
 link-place-spec =
