@@ -1,7 +1,6 @@
 -- Buckets of clauses: equal sets have the same one.
 -- Assumes nothing.
 use mathlib.Core.Path.{_≡_, refl, sym, _∙_, ap}
-use mathlib.Core.Bool.{true, false}
 use mathlib.Core.List.{List, _∷_}
 use Prim.Native.Nat.{ℕ, _+_, _*_, _%_, _≤_, _<_}
 use native.Mathlib.Nat.{mul-le-mul}
@@ -39,7 +38,7 @@ pub bucket-small : (c : List ℕ) → bucketOf c < buckets
 unfolding bucketOf
 bucket-small c = omega arith
 
-literals-once : {c : List ℕ} → Distinct c → literals c ≡ c
+pub literals-once : {c : List ℕ} → Distinct c → literals c ≡ c
 unfolding literals
 literals-once empty = refl
 literals-once (more {x = x} {xs = xs} n d) = cases (mem x xs) (λ t. absurd (n (mem-in x xs t))) (λ t. rw (t, literals) (ap (λ (l : List ℕ). x ∷ l) (literals-once d)))
@@ -51,17 +50,13 @@ unfolding share
 share-small x = mul-le-mul {n₂ = 65535} {m₂ = 131071} (omega arith) (omega arith)
 
 module _ (q : List ℕ) (i : ℕ) where
-  pub rest-end : length q ≤ i → sum (literals (drop i q)) ≡ 0
-  unfolding sum literals
-  rest-end h = ap (λ (l : List ℕ). sum (literals l)) (from-end q i h)
+  pub rest-end : length q ≤ i → sum (drop i q) ≡ 0
+  unfolding sum
+  rest-end h = ap sum (from-end q i h)
 
-  pub rest-new : i < length q → mem (getD q i 0) (drop (i + 1) q) ≡ false → sum (literals (drop i q)) ≡ share (getD q i 0) + sum (literals (drop (i + 1) q))
-  unfolding sum literals
-  rest-new h e = ap (λ (l : List ℕ). sum (literals l)) (from-on q i h) ∙ rw (e, literals)
-
-  pub rest-again : i < length q → mem (getD q i 0) (drop (i + 1) q) ≡ true → sum (literals (drop i q)) ≡ sum (literals (drop (i + 1) q))
-  unfolding literals
-  rest-again h e = ap (λ (l : List ℕ). sum (literals l)) (from-on q i h) ∙ rw (e, literals)
+  pub rest-on : i < length q → sum (drop i q) ≡ share (getD q i 0) + sum (drop (i + 1) q)
+  unfolding sum
+  rest-on h = ap sum (from-on q i h)
 
 module _ (row : List ℕ) (i : ℕ) where
   pub clause-sum-stop : getD row i 0 ≡ 0 → sum (clauseAt row i) ≡ 0

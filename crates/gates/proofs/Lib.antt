@@ -22,6 +22,7 @@ pub mod HowMany
 pub mod Uprights
 pub mod Masks
 pub mod Marks
+pub mod Queries
 pub mod AndMarks
 pub mod XorMarks
 pub mod Marking

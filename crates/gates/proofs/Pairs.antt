@@ -3,7 +3,7 @@
 use mathlib.Core.Path.{_≡_, refl, sym, _∙_, ap}
 use mathlib.Core.Logic.{_≢_, _↔_}
 use mathlib.Core.Bool.{true, false, cond}
-use mathlib.Core.List.{List, [], _∷_, map, List·Memᴰ·eq-of-singleton, List·Memᴰ·not-nil, Memᴰ·cast}
+use mathlib.Core.List.{List, [], _∷_, map, Memᴰ·cast}
 use Prim.Native.Nat.{ℕ, _+_, _≤_, _<_}
 use native.Mathlib.Omega.{arith}
 use native.Mathlib.Decide.{ℕ-discrete, decLt}
@@ -14,7 +14,6 @@ use borrow.Author.Tests.{eq-eqb, ne-eqb, eqb-true}
 use Rattle.clauses.specs.Code.{negate}
 use Rattle.clauses.specs.Clause.{Within, Same, Present, clausesIn}
 use Rattle.clauses.proofs.Lists.{and-both, both-and, mem-map, mem-of-map}
-use Rattle.clauses.proofs.Distinct.{empty, more}
 use Rattle.clauses.proofs.Clauses.{present-is, is-present, present-same, same-sym}
 use Rattle.clauses.proofs.Picks.{perm-of-same, perm-length}
 use Rattle.gates.specs.Found.{clauseAt, Starts}
@@ -24,6 +23,7 @@ use Rattle.gates.proofs.Rows.{clause-at, literal-some, clause-ended}
 use Rattle.gates.proofs.StartOf.{start-only}
 use Rattle.gates.proofs.Firsts.{first-of}
 use Rattle.gates.proofs.Marks.{clause-distinct}
+use Rattle.gates.proofs.Queries.{two-distinct}
 
 module _ (row : List ℕ) where
   pub pair-literal : (p : ℕ) → getD row p 0 ≢ 0 → pairAt row p ≡ false
@@ -112,7 +112,7 @@ module _ {cs : List (List ℕ)} {row : List ℕ} (normal : Normal row) (same : (
   unfolding marksPair
   pair-of x y n h k =
       let f = first-of row (same (x ∷ y ∷ []) .0 h) in
-      let e = perm-length (perm-of-same (x ∷ y ∷ []) (clauseAt row (f .place)) (more (λ m. n (List·Memᴰ·eq-of-singleton m)) (more List·Memᴰ·not-nil empty)) (clause-distinct normal (f .place) (f .start)) (f .same)) in
+      let e = perm-length (perm-of-same (x ∷ y ∷ []) (clauseAt row (f .place)) (two-distinct n) (clause-distinct normal (f .place) (f .start)) (f .same)) in
       record {
         place = f .place;
         start = f .start;

@@ -1,7 +1,7 @@
 -- The sides of ITEs: a side is two clauses that are present, and each stands at one half of the row.
 -- Assumes nothing.
 use mathlib.Core.Path.{_≡_, refl, sym, _∙_, ap, subst, subst⁻¹}
-use mathlib.Core.Logic.{_≢_, _⊎_, inl, inr}
+use mathlib.Core.Logic.{_≢_}
 use mathlib.Core.Bool.{Bool, true, false, not, true≢false}
 use mathlib.Core.List.{List, [], _∷_, List·Memᴰ·head, List·Memᴰ·tail, Memᴰ·cast, List·Memᴰ·not-nil}
 use Prim.Native.Nat.{ℕ, _+_, _≤_, _<_}
@@ -11,22 +11,23 @@ use lib.ListN.{length, getD}
 use Rattle.clauses.specs.Code.{negate, net}
 use Rattle.clauses.specs.Clause.{clausesIn, Mem, Within, Same, Tautology, Present}
 use Rattle.clauses.proofs.Lists.{and-both, both-and}
-use Rattle.clauses.proofs.Distinct.{Distinct, empty, more}
-use Rattle.clauses.proofs.Codes.{negate-negate, same-net}
+use Rattle.clauses.proofs.Codes.{negate-negate}
 use Rattle.clauses.proofs.Clauses.{present-is, is-present, same-refl, same-sym, same-trans, present-same, present-proper}
 use Rattle.clauses.proofs.Picks.{perm-of-same, perm-length}
 use Rattle.gates.specs.Gate.{Apart, IteGate}
 use Rattle.gates.specs.Found.{clauseAt, around, Starts, LiteralAt}
-use Rattle.gates.specs.Search.{placeOf}
+use Rattle.gates.specs.Search.{placeOf, Once}
 use Rattle.gates.specs.Normal.{Normal}
 use Rattle.gates.specs.Mark.{isFirst, startOf}
 use Rattle.gates.specs.Ites.{inThree, other, isPaired}
 use Rattle.gates.specs.declared.search.Place.{Place}
 use Rattle.gates.specs.declared.search.Place.the-variants.{At, Nothing}
 use Rattle.gates.proofs.Rows.{LiteralOf, literal-in, literal-of, starts-listed}
+use Rattle.gates.proofs.StartOf.{start-is}
 use Rattle.gates.proofs.Places.{First, place-first, first-only, nothing-present}
 use Rattle.gates.proofs.Firsts.{first-same, first-is, is-first}
 use Rattle.gates.proofs.Marks.{clause-distinct}
+use Rattle.gates.proofs.Queries.{three-distinct, three-once, nets-differ}
 use Rattle.gates.proofs.Threes.{Three, InThree, in-three-is, is-in-three, start-in-three, around-in, around-apart}
 
 -- Sets of three literals
@@ -51,26 +52,6 @@ swap a b c = record { left = within-three a b c (a ∷ c ∷ b ∷ []) mem-one m
 
 three-equal : {a b c d e f : ℕ} → a ≡ d → b ≡ e → c ≡ f → a ∷ b ∷ c ∷ [] ≡ d ∷ e ∷ f ∷ []
 three-equal p q r = rw (p, q, r)
-
-three-distinct : {a b c : ℕ} → a ≢ b → a ≢ c → b ≢ c → Distinct (a ∷ b ∷ c ∷ [])
-three-distinct {a} {b} {c} ab ac bc = more first (more second (more (λ k. List·Memᴰ·not-nil k) empty))
-  where
-    second : Mem b (c ∷ []) → ⊥
-    second (List·Memᴰ·head e) = bc e
-    second (List·Memᴰ·tail k) = List·Memᴰ·not-nil k
-
-    first : Mem a (b ∷ c ∷ []) → ⊥
-    first (List·Memᴰ·head e) = ab e
-    first (List·Memᴰ·tail (List·Memᴰ·head e)) = ac e
-    first (List·Memᴰ·tail (List·Memᴰ·tail k)) = List·Memᴰ·not-nil k
-
--- in a clause that is no tautology different literals are of different nets
-nets-differ : {c : List ℕ} → ¬ Tautology c → (a b : ℕ) → Mem a c → Mem b c → a ≢ b → net a ≢ net b
-nets-differ {c} t a b i j n e = go (same-net a b e)
-  where
-    go : (a ≡ b) ⊎ (a ≡ negate b) → ⊥
-    go (inl q) = n q
-    go (inr q) = t (record { lit = b; plain = j; inverse = Memᴰ·cast (sym q) i })
 
 -- A side
 
@@ -205,22 +186,46 @@ module _ {row : List ℕ} (normal : Normal row) where
     after : getD row p 0 ≢ other row p true
     others : other row p false ≢ other row p true
 
-  differ : (p : ℕ) → Paired p → Differ p
+  differ : (p : ℕ) → InThree row p → Starts row (startOf row p) → Differ p
   unfolding other
-  differ p k =
+  differ p t start =
       let b = startOf row p in
-      let t = k .three in
       let r = around-in b p (t .low) (t .high) in
       let s = around-in b (around b p) (r .0) (r .1) in
       let d = around-apart b p (t .low) (t .high) in
-      let at-p = literal-here b p (k .clause .start) (t .clause) (t .low) (t .high) in
-      let at-next = literal-here b (around b p) (k .clause .start) (t .clause) (r .0) (r .1) in
-      let at-after = literal-here b (around b (around b p)) (k .clause .start) (t .clause) (s .0) (s .1) in
+      let at-p = literal-here b p start (t .clause) (t .low) (t .high) in
+      let at-next = literal-here b (around b p) start (t .clause) (r .0) (r .1) in
+      let at-after = literal-here b (around b (around b p)) start (t .clause) (s .0) (s .1) in
       record {
         next = λ e. d .0 (sym (normal .once b p (around b p) at-p at-next e));
         after = λ e. d .1 (sym (normal .once b p (around b (around b p)) at-p at-after e));
         others = λ e. d .2 (sym (normal .once b (around b p) (around b (around b p)) at-next at-after e));
       }
+
+  -- what is searched for at a place of a clause of three
+  pub companion-once : (p : ℕ) → inThree row p ≡ true → Once (getD row p 0 ∷ negate (other row p false) ∷ negate (other row p true) ∷ [])
+  companion-once p h = three-once (λ e. xy (omega arith)) (λ e. xz (omega arith)) (λ e. d .others (omega arith))
+    where
+      t : InThree row p
+      t = in-three-is row p h
+
+      start : Starts row (startOf row p)
+      start = start-is row p (omega (arith, t .high, t .clause .inside))
+
+      d : Differ p
+      d = differ p t start
+
+      of : Same (clause-of p) (clauseAt row (startOf row p))
+      of = around-same p t start
+
+      proper : ¬ Tautology (clauseAt row (startOf row p))
+      proper = normal .proper _ (starts-listed row (startOf row p) start)
+
+      xy : net (getD row p 0) ≢ net (other row p false)
+      xy = nets-differ proper _ _ (of .left _ mem-one) (of .left _ mem-two) (d .next)
+
+      xz : net (getD row p 0) ≢ net (other row p true)
+      xz = nets-differ proper _ _ (of .left _ mem-one) (of .left _ mem-three) (d .after)
 
   -- a half is a side
   pub half-side : (p : ℕ) → isPaired row p ≡ true → (a : Bool) → Side (clausesIn row) (negate (other row p a)) (negate (getD row p 0)) (other row p (not a))
@@ -230,7 +235,7 @@ module _ {row : List ℕ} (normal : Normal row) where
       k = paired-is p h
 
       d : Differ p
-      d = differ p k
+      d = differ p (k .three) (k .clause .start)
 
       proper : ¬ Tautology (clause-of p)
       proper = present-proper (clause-present p k)
@@ -406,5 +411,5 @@ module _ {row : List ℕ} (normal : Normal row) where
       same-after : (a d : Bool) → other row p a ≡ other row q d → a ≡ d
       same-after false false r = refl
       same-after true true r = refl
-      same-after false true r = absurd (differ p i .others (r ∙ ap (λ (u : ℕ). other row u true) (sym same-place)))
-      same-after true false r = absurd (differ p i .others (sym (r ∙ ap (λ (u : ℕ). other row u false) (sym same-place))))
+      same-after false true r = absurd (differ p (i .three) (i .clause .start) .others (r ∙ ap (λ (u : ℕ). other row u true) (sym same-place)))
+      same-after true false r = absurd (differ p (i .three) (i .clause .start) .others (sym (r ∙ ap (λ (u : ℕ). other row u false) (sym same-place))))

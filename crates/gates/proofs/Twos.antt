@@ -3,7 +3,7 @@
 use mathlib.Core.Path.{_≡_, refl, sym, _∙_, ap}
 use mathlib.Core.Logic.{_≢_, _⊎_, inl, inr}
 use mathlib.Core.Bool.{true, false}
-use mathlib.Core.List.{List, [], _∷_, List·Memᴰ·head, List·Memᴰ·eq-of-singleton, List·Memᴰ·not-nil}
+use mathlib.Core.List.{List, [], _∷_, List·Memᴰ·head}
 use Prim.Native.Nat.{ℕ, _+_, _≤_, _<_}
 use native.Mathlib.Omega.{arith}
 use native.Mathlib.Decide.{ℕ-discrete}
@@ -16,7 +16,6 @@ use Rattle.clauses.specs.Code.{negate}
 use Rattle.clauses.specs.Clause.{clausesIn, Present}
 use Rattle.clauses.specs.Listing.{present}
 use Rattle.clauses.proofs.Lists.{and-both, or-cases, all-have}
-use Rattle.clauses.proofs.Distinct.{empty, more}
 use Rattle.clauses.proofs.Clauses.{present-is}
 use Rattle.clauses.proofs.Picks.{perm-of-same, perm-length}
 use Rattle.gates.specs.Found.{clauseAt, LiteralAt}
@@ -25,6 +24,7 @@ use Rattle.gates.specs.Mark.{isCandidate, Twos, givesAnd}
 use Rattle.gates.proofs.Rows.{starts-before, literal-in, literal-of}
 use Rattle.gates.proofs.Firsts.{first-of}
 use Rattle.gates.proofs.Marks.{clause-distinct}
+use Rattle.gates.proofs.Queries.{two-distinct}
 
 -- As they are written
 
@@ -77,7 +77,7 @@ module _ {row twos : List ℕ} (normal : Normal row) (d : Twos row twos (length 
   two-noted : (x y : ℕ) → x ≢ y → Present (clausesIn row) (x ∷ y ∷ []) → getD twos x 0 ≢ 0
   two-noted x y n h =
       let f = first-of row h in
-      let e = perm-length (perm-of-same (x ∷ y ∷ []) (clauseAt row (f .place)) (more (λ m. n (List·Memᴰ·eq-of-singleton m)) (more List·Memᴰ·not-nil empty)) (clause-distinct normal (f .place) (f .start)) (f .same)) in
+      let e = perm-length (perm-of-same (x ∷ y ∷ []) (clauseAt row (f .place)) (two-distinct n) (clause-distinct normal (f .place) (f .start)) (f .same)) in
       let l = literal-of row (f .place) (f .start) x (f .same .left x (List·Memᴰ·head refl)) in
       rw (l .is) at (d .some (f .place) (l .place) (f .start .inside) (l .at) (sym e))
 

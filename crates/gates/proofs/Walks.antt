@@ -40,10 +40,6 @@ within-no : (x : ℕ) (c d : List ℕ) → mem x d ≡ false → within (x ∷ c
 unfolding within all
 within-no x c d e = rw (e, all)
 
-pub same-yes : (c d : List ℕ) → within c d ≡ true → sameSet c d ≡ within d c
-unfolding sameSet
-same-yes c d e = rw e
-
 pub same-no : (c d : List ℕ) → within c d ≡ false → sameSet c d ≡ false
 unfolding sameSet
 same-no c d e = rw e
@@ -56,16 +52,6 @@ module _ (q : List ℕ) (i : ℕ) where
   pub from-on : i < length q → drop i q ≡ getD q i 0 ∷ drop (i + 1) q
   from-on h = rw add-one (drop-cons q i 0 h)
 
-  module _ (x : ℕ) where
-    pub among-end : length q ≤ i → mem x (drop i q) ≡ false
-    among-end h = ap (mem x) (from-end h) ∙ mem-none x
-
-    pub among-here : i < length q → getD q i 0 ≡ x → mem x (drop i q) ≡ true
-    among-here h e = ap (mem x) (from-on h) ∙ mem-here x (getD q i 0) (drop (i + 1) q) e
-
-    pub among-on : i < length q → getD q i 0 ≢ x → mem x (drop i q) ≡ mem x (drop (i + 1) q)
-    among-on h n = ap (mem x) (from-on h) ∙ mem-later x (getD q i 0) (drop (i + 1) q) n
-
   module _ (d : List ℕ) where
     pub all-end : length q ≤ i → within (drop i q) d ≡ true
     all-end h = ap (λ (c : List ℕ). within c d) (from-end h) ∙ within-none d
@@ -77,26 +63,15 @@ module _ (q : List ℕ) (i : ℕ) where
     all-on h e = ap (λ (c : List ℕ). within c d) (from-on h) ∙ within-yes (getD q i 0) (drop (i + 1) q) d e
 
 -- a clause from place i on
-module _ (row : List ℕ) (i : ℕ) where
-  module _ (x : ℕ) where
-    pub holds-stop : getD row i 0 ≡ 0 → mem x (clauseAt row i) ≡ false
-    holds-stop e = ap (mem x) (clause-stops row i e) ∙ mem-none x
+module _ (row : List ℕ) (i x : ℕ) where
+  pub holds-stop : getD row i 0 ≡ 0 → mem x (clauseAt row i) ≡ false
+  holds-stop e = ap (mem x) (clause-stops row i e) ∙ mem-none x
 
-    pub holds-here : getD row i 0 ≢ 0 → getD row i 0 ≡ x → mem x (clauseAt row i) ≡ true
-    holds-here n e = ap (mem x) (clause-goes-on row i n) ∙ mem-here x (getD row i 0) (clauseAt row (i + 1)) e
+  pub holds-here : getD row i 0 ≢ 0 → getD row i 0 ≡ x → mem x (clauseAt row i) ≡ true
+  holds-here n e = ap (mem x) (clause-goes-on row i n) ∙ mem-here x (getD row i 0) (clauseAt row (i + 1)) e
 
-    pub holds-on : getD row i 0 ≢ 0 → getD row i 0 ≢ x → mem x (clauseAt row i) ≡ mem x (clauseAt row (i + 1))
-    holds-on n m = ap (mem x) (clause-goes-on row i n) ∙ mem-later x (getD row i 0) (clauseAt row (i + 1)) m
-
-  module _ (q : List ℕ) where
-    pub within-stop : getD row i 0 ≡ 0 → within (clauseAt row i) q ≡ true
-    within-stop e = ap (λ (c : List ℕ). within c q) (clause-stops row i e) ∙ within-none q
-
-    pub within-not : getD row i 0 ≢ 0 → mem (getD row i 0) q ≡ false → within (clauseAt row i) q ≡ false
-    within-not n e = ap (λ (c : List ℕ). within c q) (clause-goes-on row i n) ∙ within-no (getD row i 0) (clauseAt row (i + 1)) q e
-
-    pub within-on : getD row i 0 ≢ 0 → mem (getD row i 0) q ≡ true → within (clauseAt row i) q ≡ within (clauseAt row (i + 1)) q
-    within-on n e = ap (λ (c : List ℕ). within c q) (clause-goes-on row i n) ∙ within-yes (getD row i 0) (clauseAt row (i + 1)) q e
+  pub holds-on : getD row i 0 ≢ 0 → getD row i 0 ≢ x → mem x (clauseAt row i) ≡ mem x (clauseAt row (i + 1))
+  holds-on n m = ap (mem x) (clause-goes-on row i n) ∙ mem-later x (getD row i 0) (clauseAt row (i + 1)) m
 
 -- each case of a step
 module _ (row : List ℕ) (i : ℕ) where

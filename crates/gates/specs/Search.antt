@@ -1,11 +1,12 @@
 -- The search for a clause in a row of codes.
 -- Assumes nothing.
+use mathlib.Core.Path.{_≡_}
 use mathlib.Core.Bool.{cond}
 use mathlib.Core.List.{List, [], _∷_, List·Memᴰ}
 use Prim.Native.Nat.{ℕ, _+_}
 use lib.ListN.{length}
 use Rattle.clauses.specs.Clause.{clausesIn, Tautology}
-use Rattle.clauses.specs.Listing.{sameSet}
+use Rattle.clauses.specs.Listing.{sameSet, literals}
 use Rattle.gates.specs.declared.search.Place.{Place}
 use Rattle.gates.specs.declared.search.Place.the-variants.{At, Nothing}
 
@@ -22,3 +23,7 @@ placeOf row q = placeIn q (clausesIn row) 0
 -- no clause of the row is one that is ignored
 abbrev pub Proper : List ℕ → Type 0
 Proper row = (c : List ℕ) → List·Memᴰ c (clausesIn row) → ¬ Tautology c
+
+-- what is searched for has no literal twice
+abbrev pub Once : List ℕ → Type 0
+Once q = literals q ≡ q

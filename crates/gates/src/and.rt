@@ -13,7 +13,6 @@ ghost use Rattle.gates.specs.Found.{clauseAt, Starts, LiteralAt};
 ghost use Rattle.gates.specs.Normal.{Normal, maxCode};
 ghost use Rattle.gates.specs.Index.{Indexed};
 ghost use Rattle.gates.specs.Mark.{Spans, isCandidate, Twos, givesAnd};
-ghost use Rattle.gates.specs.Search.{Proper};
 use crate::fill::fill;
 use crate::literal::inverse;
 use crate::search::is_present;
@@ -22,7 +21,7 @@ use crate::walk::clause_end;
 // Whether the clause (not l, not k) is present, if k is another literal than l.
 fn is_input(codes: &[u32], index: &[u32], l: u32, k: u32) -> bool
     requires { ⌜ Indexed (now codes) (now index) ⌝ }
-    requires { ⌜ Proper (now codes) ⌝ }
+    requires { ⌜ Normal (now codes) ⌝ }
     ensures { λ r. ⌜ r ≡ (eqb k l || present (clausesIn (now (codes .entry))) (negate l ∷ negate k ∷ [])) ⌝ }
 {
     if k == l {
@@ -37,7 +36,7 @@ fn is_input(codes: &[u32], index: &[u32], l: u32, k: u32) -> bool
 // Whether l is the output of an AND of the clause, if that has three literals or more.
 fn gives_and(codes: &[u32], index: &[u32], clause: &[u32], l: u32) -> bool
     requires { ⌜ Indexed (now codes) (now index) ⌝ }
-    requires { ⌜ Proper (now codes) ⌝ }
+    requires { ⌜ Normal (now codes) ⌝ }
     ensures { λ r. ⌜ r ≡ givesAnd (clausesIn (now (codes .entry))) (now (clause .entry)) l ⌝ }
 {
     let mut i = 0;

@@ -3,7 +3,8 @@
 ghost use mathlib.Core.Path.{_≡_};
 ghost use Prim.Native.Nat.{_≤_};
 ghost use lib.ListN.{length};
-ghost use Rattle.gates.specs.Search.{placeOf};
+ghost use Rattle.gates.specs.Found.{Starts};
+ghost use Rattle.gates.specs.Search.{placeOf, Once};
 ghost use Rattle.gates.specs.Index.{Indexed};
 ghost use Rattle.gates.specs.Normal.{Normal};
 ghost use Rattle.gates.specs.Mark.{Spans, isAt, isCandidate, kindOf, Kinds};
@@ -14,6 +15,8 @@ use crate::walk::clause_end;
 // Whether the first clause with the literals of q starts at b.
 fn is_found_at(codes: &[u32], index: &[u32], q: &[u32], b: usize) -> bool
     requires { ⌜ Indexed (now codes) (now index) ⌝ }
+    requires { ⌜ Normal (now codes) ⌝ }
+    requires { ⌜ Once (now q) ⌝ }
     ensures { λ r. ⌜ r ≡ isAt b (placeOf (now (codes .entry)) (now (q .entry))) ⌝ }
 {
     match find(codes, index, q) {
@@ -25,7 +28,8 @@ fn is_found_at(codes: &[u32], index: &[u32], q: &[u32], b: usize) -> bool
 // Whether the clause from b to end has three literals or more and is the first of its set.
 fn is_candidate(codes: &[u32], index: &[u32], b: usize, end: usize) -> bool
     requires { ⌜ Indexed (now codes) (now index) ⌝ }
-    requires { ⌜ Spans (now codes) b end ⌝ }
+    requires { ⌜ Normal (now codes) ⌝ }
+    requires { ⌜ Spans (now codes) b end × Starts (now codes) b ⌝ }
     ensures { λ r. ⌜ r ≡ isCandidate (now (codes .entry)) b ⌝ }
 {
     if end - b < 3 {
@@ -37,7 +41,8 @@ fn is_candidate(codes: &[u32], index: &[u32], b: usize, end: usize) -> bool
 // 2 for a clause of these that has three literals, 1 for another one, 0 for any other clause.
 fn kind_of(codes: &[u32], index: &[u32], b: usize, end: usize) -> u8
     requires { ⌜ Indexed (now codes) (now index) ⌝ }
-    requires { ⌜ Spans (now codes) b end ⌝ }
+    requires { ⌜ Normal (now codes) ⌝ }
+    requires { ⌜ Spans (now codes) b end × Starts (now codes) b ⌝ }
     ensures { λ r. ⌜ r ≡ kindOf (now (codes .entry)) b ⌝ }
 {
     if !is_candidate(codes, index, b, end) {

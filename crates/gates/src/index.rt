@@ -1,7 +1,6 @@
 // The clause index of a row of codes.
 
 use crate::fill::fill;
-use crate::search::is_among;
 use crate::walk::Walk;
 use crate::walk::next;
 ghost use mathlib.Core.Path.{_≡_};
@@ -9,6 +8,7 @@ ghost use Prim.Native.Nat.{_+_, _%_, _<_, _≤_};
 ghost use lib.ListN.{length};
 ghost use Rattle.gates.specs.Found.{clauseAt, Starts};
 ghost use Rattle.gates.specs.Normal.{Normal};
+ghost use Rattle.gates.specs.Search.{Once};
 ghost use Rattle.gates.specs.Index.{share, buckets, bucketOf, isStart, Indexed};
 
 // The number of buckets (specs/Index.antt).
@@ -30,18 +30,16 @@ fn add_share(s: usize, x: u32) -> usize
     (s + share(x)) % BUCKETS
 }
 
-// The bucket of a clause that is given by its literals.
+// The bucket of a clause that is given by its literals, each once.
 pub fn bucket_of(q: &[u32]) -> usize
+    requires { ⌜ Once (now q) ⌝ }
     ensures { λ r. ⌜ r ≡ bucketOf (now (q .entry)) ⌝ }
 {
     let mut s = 0;
     let mut i = 0;
     while i < q.len() {
-        let x = q[i];
+        s = add_share(s, q[i]);
         i += 1;
-        if !is_among(q, i, x) {
-            s = add_share(s, x);
-        }
     }
     s
 }

@@ -8,7 +8,6 @@ ghost use Rattle.gates.specs.Found.{Starts, LiteralAt};
 ghost use Rattle.gates.specs.Normal.{Normal};
 ghost use Rattle.gates.specs.Index.{Indexed};
 ghost use Rattle.gates.specs.Mark.{Spans, isCandidate, Kinds, Twos, marksPair, Marking, Pairing};
-ghost use Rattle.gates.specs.Search.{Proper};
 use crate::and::is_and;
 use crate::counts::Counts;
 use crate::literal::inverse;
@@ -134,8 +133,8 @@ pub fn mark_clauses(
 // Whether the clause from b to end has two literals and that of their inverses is present.
 fn is_pair(codes: &[u32], index: &[u32], b: usize, end: usize) -> bool
     requires { ⌜ Indexed (now codes) (now index) ⌝ }
-    requires { ⌜ Proper (now codes) ⌝ }
-    requires { ⌜ Spans (now codes) b end ⌝ }
+    requires { ⌜ Normal (now codes) ⌝ }
+    requires { ⌜ Spans (now codes) b end × Starts (now codes) b ⌝ }
     ensures { λ r. ⌜ r ≡ marksPair (now (codes .entry)) b ⌝ }
 {
     if end - b != 2 {

@@ -2,17 +2,20 @@
 
 ghost use mathlib.Core.Path.{_≡_};
 ghost use mathlib.Core.Bool.{false, not, _||_};
+ghost use mathlib.Core.List.{map};
 ghost use Prim.Native.Nat.{_≤_, _^_};
 ghost use lib.ListN.{length, take};
+ghost use Rattle.clauses.specs.Code.{net};
 ghost use Rattle.clauses.specs.Clause.{clausesIn};
 ghost use Rattle.clauses.specs.Lists.{all};
 ghost use Rattle.clauses.specs.Listing.{present};
 ghost use Rattle.gates.specs.Sign.{plus, flip, isInverse};
 ghost use Rattle.gates.specs.Listing.{signed};
-ghost use Rattle.gates.specs.Found.{clauseAt};
+ghost use Rattle.gates.specs.Found.{clauseAt, Starts};
+ghost use Rattle.gates.specs.Normal.{Normal};
 ghost use Rattle.gates.specs.Index.{Indexed};
 ghost use Rattle.gates.specs.Mark.{Spans, isLowest, isUpright, masked, maskOdd, givesXor};
-ghost use Rattle.gates.specs.Search.{Proper};
+ghost use Rattle.gates.specs.Search.{Once};
 use crate::literal::inverse;
 use crate::search::is_present;
 
@@ -89,7 +92,8 @@ fn put_masked(clause: &[u32], mask: u32, q: &mut [u32]) -> bool
 // Whether the clause with the signs changed that the mask has is present, if these are an even number.
 fn is_mask_present(codes: &[u32], index: &[u32], clause: &[u32], mask: u32) -> bool
     requires { ⌜ Indexed (now codes) (now index) ⌝ }
-    requires { ⌜ Proper (now codes) ⌝ }
+    requires { ⌜ Normal (now codes) ⌝ }
+    requires { ⌜ Once (map net (now clause)) ⌝ }
     requires { ⌜ length (now clause) ≤ 5 ⌝ }
     ensures { λ r. ⌜ r ≡ (maskOdd mask (now (clause .entry)) || present (clausesIn (now (codes .entry))) (masked mask (now (clause .entry)))) ⌝ }
 {
@@ -118,7 +122,8 @@ fn mask_count(n: usize) -> u32
 // Whether the clause is present with any even number of its signs changed.
 fn is_every_mask_present(codes: &[u32], index: &[u32], clause: &[u32]) -> bool
     requires { ⌜ Indexed (now codes) (now index) ⌝ }
-    requires { ⌜ Proper (now codes) ⌝ }
+    requires { ⌜ Normal (now codes) ⌝ }
+    requires { ⌜ Once (map net (now clause)) ⌝ }
     requires { ⌜ length (now clause) ≤ 5 ⌝ }
     ensures { λ r. ⌜ r ≡ all (present (clausesIn (now (codes .entry)))) (signed (now (clause .entry)) false) ⌝ }
 {
@@ -136,7 +141,8 @@ fn is_every_mask_present(codes: &[u32], index: &[u32], clause: &[u32]) -> bool
 // Whether the clause stands for an XOR, if it has three literals or more.
 fn gives_xor(codes: &[u32], index: &[u32], clause: &[u32]) -> bool
     requires { ⌜ Indexed (now codes) (now index) ⌝ }
-    requires { ⌜ Proper (now codes) ⌝ }
+    requires { ⌜ Normal (now codes) ⌝ }
+    requires { ⌜ Once (map net (now clause)) ⌝ }
     ensures { λ r. ⌜ r ≡ givesXor (clausesIn (now (codes .entry))) (now (clause .entry)) ⌝ }
 {
     if 5 < clause.len() {
@@ -151,8 +157,8 @@ fn gives_xor(codes: &[u32], index: &[u32], clause: &[u32]) -> bool
 // .. for the clause from b to end.
 pub fn is_xor(codes: &[u32], index: &[u32], b: usize, end: usize) -> bool
     requires { ⌜ Indexed (now codes) (now index) ⌝ }
-    requires { ⌜ Proper (now codes) ⌝ }
-    requires { ⌜ Spans (now codes) b end ⌝ }
+    requires { ⌜ Normal (now codes) ⌝ }
+    requires { ⌜ Spans (now codes) b end × Starts (now codes) b ⌝ }
     ensures { λ r. ⌜ r ≡ givesXor (clausesIn (now (codes .entry))) (clauseAt (now (codes .entry)) b) ⌝ }
 {
     gives_xor(codes, index, &codes[b..end])

@@ -48,7 +48,7 @@ part-gives-and-end : tie.Need-part-gives-and-end
 part-gives-and-end c = end-inside (c .before .before .before .before .before .before .before .pre .1 .1 .1 .0 .0)
 
 gives-and-requires : tie.Need-gives-and-requires
-gives-and-requires c κs = (c .before .before .before .before .before .before .before .before .pre .0, c .before .before .before .before .before .before .before .before .pre .1 .0 .proper)
+gives-and-requires c κs = (c .before .before .before .before .before .before .before .before .pre .0, c .before .before .before .before .before .before .before .before .pre .1 .0)
 
 returns-2 : tie.Need-returns-2
 returns-2 c = rw (← part-clause (c .before .before .before .before .before .before .before .before .before .pre .1 .1 .1 .0 .0)) (c .gives-and .ensures)

@@ -2,6 +2,8 @@
 -- Assumes nothing.
 use borrow.Author.Tests.{eq-eqb, ne-eqb}
 use borrow.Author.Needs.{needs}
+use native.Mathlib.Omega.{arith}
+use Rattle.gates.proofs.Queries.{two-once}
 use Rattle.gates.proofs.and.is_input.Statement.{statement}
 use Rattle.gates.proofs.and.is_input.Tie as tie
 
@@ -18,7 +20,7 @@ slice-aggregate-is-present : tie.Need-slice-aggregate-is-present
 slice-aggregate-is-present c = search needs
 
 is-present-requires : tie.Need-is-present-requires
-is-present-requires c κs = search needs
+is-present-requires c κs = (c .before .before .before .before .before .before .pre .0, (c .before .before .before .before .before .before .pre .1, rw (c .before .before .inverse .ensures, c .before .inverse2 .ensures) (two-once (λ e. c .before .before .before .if1 .left (omega (arith, e))))))
 
 returns-2 : tie.Need-returns-2
 returns-2 c = rw (ne-eqb _ _ (c .before .before .before .before .if1 .left), ← c .before .before .before .inverse .ensures, ← c .before .before .inverse2 .ensures) (c .is-present .ensures)

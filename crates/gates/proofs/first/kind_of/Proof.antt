@@ -18,10 +18,10 @@ sub-if2 : tie.Need-sub-if2
 sub-if2 c = search needs
 
 returns-2 : tie.Need-returns-2
-returns-2 c = sym (three-kind _ _ (sym (c .before .before .is-candidate .ensures) ∙ not-false _ (c .before .if1 .left)) (omega (arith, c .if2 .taken, c .before .before .before .before .before .pre .1 .is)))
+returns-2 c = sym (three-kind _ _ (sym (c .before .before .is-candidate .ensures) ∙ not-false _ (c .before .if1 .left)) (omega (arith, c .if2 .taken, c .before .before .before .before .before .pre .1 .1 .0 .is)))
 
 returns-3 : tie.Need-returns-3
-returns-3 c = sym (candidate-kind _ _ (sym (c .before .before .is-candidate .ensures) ∙ not-false _ (c .before .if1 .left)) (λ h. c .if2 .left (omega (arith, h, c .before .before .before .before .before .pre .1 .is))))
+returns-3 c = sym (candidate-kind _ _ (sym (c .before .before .is-candidate .ensures) ∙ not-false _ (c .before .if1 .left)) (λ h. c .if2 .left (omega (arith, h, c .before .before .before .before .before .pre .1 .1 .0 .is))))
 
 pub kind-of-spec : {M : Type 1} → statement M
 kind-of-spec =

@@ -31,7 +31,7 @@ clause-end-requires : tie.Need-clause-end-requires Inv-loop μ-loop
 clause-end-requires c κs = tt
 
 kind-of-requires : tie.Need-kind-of-requires Inv-loop μ-loop
-kind-of-requires c κs = (c .before .before .before .before .before .before .pre .0, record { inside = omega (arith, c .before .loop-test .taken); is = c .clause-end .ensures })
+kind-of-requires c κs = (c .before .before .before .before .before .before .pre .0, (c .before .before .before .before .before .before .pre .1 .0, (record { inside = omega (arith, c .before .loop-test .taken); is = c .clause-end .ensures }, start c)))
 
 slice-write-kinds : tie.Need-slice-write-kinds Inv-loop μ-loop
 slice-write-kinds c = omega (arith, c .before .before .loop-test .taken, c .before .before .before .loop .inv .3 .room)

@@ -10,6 +10,7 @@ use Rattle.clauses.proofs.Lists.{and-both}
 use Rattle.gates.specs.Mark.{isFirst, startOf}
 use Rattle.gates.specs.Ites.{inThree}
 use Rattle.gates.proofs.Halves.{next-in-three, Others, others, unpaired, paired-by}
+use Rattle.gates.proofs.Sides.{companion-once}
 use Rattle.gates.proofs.ites.is_paired.Statement.{statement}
 use Rattle.gates.proofs.ites.is_paired.Tie as tie
 
@@ -62,7 +63,7 @@ slice-aggregate-is-present : tie.Need-slice-aggregate-is-present
 slice-aggregate-is-present c = search needs
 
 is-present-requires : tie.Need-is-present-requires
-is-present-requires c κs = (c .before .before .before .before .before .before .before .before .before .before .before .before .before .pre .0, c .before .before .before .before .before .before .before .before .before .before .before .before .before .pre .1 .0 .proper)
+is-present-requires c κs = (c .before .before .before .before .before .before .before .before .before .before .before .before .before .pre .0, (c .before .before .before .before .before .before .before .before .before .before .before .before .before .pre .1 .0, rw (c .before .before .before .before .inverse .ensures, c .before .before .inverse2 .ensures, found (c .before .before .before .before .before .before) .next-is, found (c .before .before .before .before .before .before) .after-is) (companion-once (c .before .before .before .before .before .before .before .before .before .before .before .before .before .pre .1 .0) _ (three (c .before .before .before .before .before .before .before .before)))))
 
 returns-2 : tie.Need-returns-2
 returns-2 c = sym (rw (paired-by _ _ _ _ (first-three (c .before .before .before .before .before .before .before .before .before)) (found (c .before .before .before .before .before .before .before)), ← c .before .before .before .before .before .inverse .ensures, ← c .before .before .before .inverse2 .ensures) (sym (c .is-present .ensures)))

@@ -32,7 +32,7 @@ clause-end-requires : tie.Need-clause-end-requires Inv-loop μ-loop
 clause-end-requires c κs = tt
 
 is-pair-requires : tie.Need-is-pair-requires Inv-loop μ-loop
-is-pair-requires c κs = (c .before .before .before .before .before .before .pre .0, (c .before .before .before .before .before .before .pre .1 .0 .proper, record { inside = omega (arith, c .before .loop-test .taken); is = c .clause-end .ensures }))
+is-pair-requires c κs = (c .before .before .before .before .before .before .pre .0, (c .before .before .before .before .before .before .pre .1 .0, (record { inside = omega (arith, c .before .loop-test .taken); is = c .clause-end .ensures }, start c)))
 
 slice-write-marks : tie.Need-slice-write-marks Inv-loop μ-loop
 slice-write-marks c = omega (arith, inside (c .before .before), c .before .before .before .before .loop .inv .2 .size, c .before .before .before .before .before .before .before .before .pre .1 .1)

@@ -15,7 +15,8 @@ use Rattle.gates.specs.Index.{buckets}
 use Rattle.gates.proofs.Buckets.{bucket-small}
 use Rattle.gates.proofs.Chains.{Searching, searching-first, searching-next, searching-falls}
 use Rattle.gates.proofs.Places.{Ended, nowhere, there, ended-at, ended-nothing}
-use Rattle.gates.proofs.Walks.{all-end, all-no, all-on, same-yes, same-no}
+use Rattle.gates.proofs.Walks.{all-end, all-no, all-on, same-no}
+use Rattle.gates.proofs.Queries.{same-ended, same-longer}
 use Rattle.gates.proofs.search.find.Statement.{statement}
 use Rattle.gates.proofs.search.find.Tie as tie
 
@@ -41,11 +42,11 @@ all-there c = c .before .literals .inv ∙ all-end (now (c .before .before .befo
 -- another clause: the search goes on along the chain
 goes-on : (c : tie.Else1 Inv-literals μ-literals Inv-clauses μ-clauses) → sameSet (now (c .before .before .before .before .before .before .before .args .q)) (clauseAt (now (c .before .before .before .before .before .before .before .args .codes)) (c .before .clauses .b)) ≡ false
     → Searching (now (c .before .before .before .before .before .before .before .args .codes)) (now (c .before .before .before .before .before .before .before .args .q)) (getD (now (c .before .before .before .before .before .before .before .args .index)) (buckets + c .before .clauses .b) 0)
-goes-on c e = searching-next (c .before .before .before .before .before .before .before .pre) (c .before .clauses .inv) (omega (arith, c .if1 .left)) e
+goes-on c e = searching-next (c .before .before .before .before .before .before .before .pre .0) (c .before .clauses .inv) (omega (arith, c .if1 .left)) e
 
 falls : (c : tie.Else1 Inv-literals μ-literals Inv-clauses μ-clauses)
     → length (now (c .before .before .before .before .before .before .before .args .codes)) - getD (now (c .before .before .before .before .before .before .before .args .index)) (buckets + c .before .clauses .b) 0 < length (now (c .before .before .before .before .before .before .before .args .codes)) - c .before .clauses .b
-falls c = searching-falls (c .before .before .before .before .before .before .before .pre) (c .before .clauses .inv) (omega (arith, c .if1 .left))
+falls c = searching-falls (c .before .before .before .before .before .before .before .pre .0) (c .before .clauses .inv) (omega (arith, c .if1 .left))
 
 -- where the loop is left
 ended : (c : tie.Joined1 Inv-literals μ-literals Inv-clauses μ-clauses) → Ended (now (c .before .before .before .before .before .before .before .args .codes)) (now (c .before .before .before .before .before .before .before .args .q)) (c .if1 .found)
@@ -55,7 +56,7 @@ ended c =
     (λ w. nowhere (turn .inv .passed) (w .0 .taken) (w .2))
     (λ w.
     let left : tie.After-literals Inv-literals μ-literals Inv-clauses μ-clauses = record { before = record { before = record { before = record { before = c .before; if1 = w .0 }; shared-slice-known5 = w .1 }; literals = w .2 }; literals-test = w .3 } in
-    rw (w .7) (there (turn .inv .passed) (omega (arith, w .0 .left)) (same-yes _ _ (all-there left) ∙ sym (w .4 .ensures) ∙ w .5 .taken)))
+    rw (w .7) (there (turn .inv .passed) (omega (arith, w .0 .left)) (same-ended _ _ _ (c .before .before .before .before .before .before .before .pre .1 .1) (all-there left) (sym (w .4 .ensures) ∙ w .5 .taken))))
     (c .if1 .came)
 
 bucket-of-requires : tie.Need-bucket-of-requires Inv-literals μ-literals Inv-clauses μ-clauses
@@ -65,23 +66,23 @@ mul-b : tie.Need-mul-b Inv-literals μ-literals Inv-clauses μ-clauses
 mul-b c = omega (arith, bucket c)
 
 shared-slice-read-b : tie.Need-shared-slice-read-b Inv-literals μ-literals Inv-clauses μ-clauses
-shared-slice-read-b c = omega (arith, bucket (c .before), c .before .before .before .before .before .pre .room)
+shared-slice-read-b c = omega (arith, bucket (c .before), c .before .before .before .before .before .pre .0 .room)
 
 cast-b : tie.Need-cast-b Inv-literals μ-literals Inv-clauses μ-clauses
 cast-b c = omega (arith, c .shared-slice-known4 .given (c .before .bucket-of .result))
 
 clauses-holds : tie.Need-clauses-holds Inv-literals μ-literals Inv-clauses μ-clauses
-clauses-holds c = searching-first (c .before .before .before .before .before .pre) (c .before .bucket-of .ensures)
+clauses-holds c = searching-first (c .before .before .before .before .before .pre .0) (c .before .bucket-of .ensures)
 
 add-b : tie.Need-add-b Inv-literals μ-literals Inv-clauses μ-clauses
-add-b c = omega (arith, c .if1 .left, c .before .before .before .before .before .before .before .pre .room)
+add-b c = omega (arith, c .if1 .left, c .before .before .before .before .before .before .before .pre .0 .room)
 
 mul-b-2 : tie.Need-mul-b-2 Inv-literals μ-literals Inv-clauses μ-clauses
-mul-b-2 c = omega (arith, c .if1 .left, c .before .before .before .before .before .before .before .pre .room, c .before .before .before .before .before .before .before .good)
+mul-b-2 c = omega (arith, c .if1 .left, c .before .before .before .before .before .before .before .pre .0 .room, c .before .before .before .before .before .before .before .good)
 
 shared-slice-read-b-2 :
     tie.Need-shared-slice-read-b-2 Inv-literals μ-literals Inv-clauses μ-clauses
-shared-slice-read-b-2 c = omega (arith, c .before .if1 .left, c .before .before .before .before .before .before .before .before .pre .room)
+shared-slice-read-b-2 c = omega (arith, c .before .if1 .left, c .before .before .before .before .before .before .before .before .pre .0 .room)
 
 cast-b-2 : tie.Need-cast-b-2 Inv-literals μ-literals Inv-clauses μ-clauses
 cast-b-2 c = omega (arith, c .shared-slice-known5 .given (buckets + c .before .before .clauses .b))
@@ -120,14 +121,17 @@ literals-again c =
     let step = c .before .before .before .before .literals in
     step .inv ∙ all-on (now (c .before .before .before .before .before .before .before .before .before .before .before .before .before .args .q)) (step .i) _ (c .before .before .before .literals-test .taken) (sym (c .before .holds .ensures) ∙ not-false _ (c .if2 .left))
 
-is-within-requires : tie.Need-is-within-requires Inv-literals μ-literals Inv-clauses μ-clauses
-is-within-requires c κs = search needs
+add-literal : tie.Need-add-literal Inv-literals μ-literals Inv-clauses μ-clauses
+add-literal c = omega (arith, c .before .before .before .if1 .left, c .before .before .before .before .before .before .before .before .before .before .good)
+
+literal-requires : tie.Need-literal-requires Inv-literals μ-literals Inv-clauses μ-clauses
+literal-requires c κs = search needs
 
 clauses-less-2 : tie.Need-clauses-less-2 Inv-literals μ-literals Inv-clauses μ-clauses
 clauses-less-2 c = falls (c .before .before .before .before .before)
 
 clauses-again-2 : tie.Need-clauses-again-2 Inv-literals μ-literals Inv-clauses μ-clauses
-clauses-again-2 c = goes-on (c .before .before .before .before .before) (same-yes _ _ (all-there (c .before .before)) ∙ sym (c .before .is-within .ensures) ∙ c .if3 .left)
+clauses-again-2 c = goes-on (c .before .before .before .before .before) (same-longer _ _ _ (c .before .before .before .before .before .before .before .before .before .before .before .before .pre .1 .1) (c .before .before .before .before .before .before .before .before .before .before .before .before .pre .1 .0) (c .before .before .before .before .before .before .clauses .inv .passed .start (omega (arith, c .before .before .before .before .before .if1 .left))) (λ e. c .if3 .left (c .before .literal .ensures ∙ e)))
 
 returns : tie.Need-returns Inv-literals μ-literals Inv-clauses μ-clauses
 returns c = ended-at (ended (c .before)) (c .if4 .taken)
@@ -161,7 +165,8 @@ find-spec =
     add-i
     literals-less
     literals-again
-    is-within-requires
+    add-literal
+    literal-requires
     clauses-less-2
     clauses-again-2
     returns

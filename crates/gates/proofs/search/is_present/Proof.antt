@@ -19,7 +19,7 @@ enum-told-2 c = search needs
 returns : tie.Need-returns
 returns c =
     let start = c .before .before .before .before .before .before in
-    sym (place-present (now (start .args .codes)) (now (start .args .q)) (start .pre .1) (sym (c .before .before .find .ensures) ∙ c .enum-told .given .1))
+    sym (place-present (now (start .args .codes)) (now (start .args .q)) (start .pre .1 .0 .proper) (sym (c .before .before .find .ensures) ∙ c .enum-told .given .1))
 
 returns-2 : tie.Need-returns-2
 returns-2 c =

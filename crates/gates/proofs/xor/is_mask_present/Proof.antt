@@ -4,6 +4,7 @@ use mathlib.Core.Path.{sym}
 use native.Mathlib.Omega.{arith}
 use lib.Seq.{length-take-le}
 use borrow.Author.Needs.{needs}
+use Rattle.gates.proofs.Queries.{masked-once}
 use Rattle.gates.proofs.xor.is_mask_present.Statement.{statement}
 use Rattle.gates.proofs.xor.is_mask_present.Tie as tie
 
@@ -20,10 +21,10 @@ array-share-prefix-q : tie.Need-array-share-prefix-q
 array-share-prefix-q c = search needs
 
 slice-aggregate-is-present : tie.Need-slice-aggregate-is-present
-slice-aggregate-is-present c = sym (length-take-le _ (c .before .before .before .put-masked .last .1 .1 .0) (omega (arith, c .before .before .before .before .before .before .before .before .pre .1 .1, c .before .before .before .put-masked .kept .1 .1 .0)))
+slice-aggregate-is-present c = sym (length-take-le _ (c .before .before .before .put-masked .last .1 .1 .0) (omega (arith, c .before .before .before .before .before .before .before .before .pre .1 .1 .1, c .before .before .before .put-masked .kept .1 .1 .0)))
 
 is-present-requires : tie.Need-is-present-requires
-is-present-requires c κs = search needs
+is-present-requires c κs = (c .before .before .before .before .before .before .before .before .pre .0, (c .before .before .before .before .before .before .before .before .pre .1 .0, rw (c .before .before .before .put-masked .ensures .1) (masked-once _ _ (c .before .before .before .before .before .before .before .before .pre .1 .1 .0))))
 
 returns-2 : tie.Need-returns-2
 returns-2 c = rw (← c .before .before .before .before .put-masked .ensures .0, c .before .before .if1 .left, ← c .before .before .before .before .put-masked .ensures .1) (c .is-present .ensures)

@@ -2,6 +2,7 @@
 -- Assumes nothing.
 use Rattle.gates.proofs.Marks.{part-clause, end-inside}
 use borrow.Author.Needs.{needs}
+use Rattle.gates.proofs.Queries.{nets-once}
 use Rattle.gates.proofs.xor.is_xor.Statement.{statement}
 use Rattle.gates.proofs.xor.is_xor.Tie as tie
 
@@ -15,13 +16,13 @@ part-gives-xor-start : tie.Need-part-gives-xor-start
 part-gives-xor-start c = search needs
 
 part-gives-xor-end : tie.Need-part-gives-xor-end
-part-gives-xor-end c = end-inside (c .before .before .pre .1 .1)
+part-gives-xor-end c = end-inside (c .before .before .pre .1 .1 .0)
 
 gives-xor-requires : tie.Need-gives-xor-requires
-gives-xor-requires c κs = search needs
+gives-xor-requires c κs = (c .before .before .before .pre .0, (c .before .before .before .pre .1 .0, rw (part-clause (c .before .before .before .pre .1 .1 .0)) (nets-once (c .before .before .before .pre .1 .0) _ (c .before .before .before .pre .1 .1 .1))))
 
 returns : tie.Need-returns
-returns c = rw (← part-clause (c .before .before .before .before .pre .1 .1)) (c .gives-xor .ensures)
+returns c = rw (← part-clause (c .before .before .before .before .pre .1 .1 .0)) (c .gives-xor .ensures)
 
 pub is-xor-spec : {M : Type 1} → statement M
 is-xor-spec =
