@@ -12,7 +12,7 @@ ghost use mathlib.Core.Path.{_≡_};
 ghost use mathlib.Core.Logic.{_↔_};
 ghost use mathlib.Core.List.{List, map};
 ghost use Prim.Native.Nat.{ℕ, _-_, _≤_, _<_};
-ghost use lib.ListN.{length, getD, take, drop};
+ghost use lib.ListN.{length, getD, take, drop, replicate};
 ghost use lib.Seq.{sets};
 ghost use Rattle.clauses.specs.Limit.{maxEntries};
 ghost use Rattle.clauses.specs.Code.{codeOf};
@@ -28,6 +28,7 @@ fn mark_gates(
     codes: &[u32],
     index: &[u32],
     kinds: &mut [u8],
+    twos: &mut [u32],
     heads: &mut [u32],
     chain: &mut [u32],
     marks: &mut [u8],
@@ -35,7 +36,8 @@ fn mark_gates(
     requires { ⌜ Indexed (now codes) (now index) ⌝ }
     requires { ⌜ Normal (now codes) ⌝ }
     requires { ⌜ Room (now codes) (length (now heads)) (length (now chain)) ⌝ }
-    requires { ⌜ (length (now codes) ≤ length (now kinds)) × (maxCode < length (now heads)) ⌝ }
+    requires { ⌜ (length (now codes) ≤ length (now kinds)) × (maxCode < length (now twos)) ⌝ }
+    requires { ⌜ now heads ≡ replicate (length (now heads)) 0 ⌝ }
     requires { ⌜ length (now marks) ≡ length (now codes) ⌝ }
     ensures { λ r. ⌜ ((cs : List (List ℕ)) → ((c : List ℕ) → Present cs c ↔ Present (clausesIn (now (codes .entry))) c)
         → Found cs (now (codes .entry)) (now (marks .exit)) × AreCounts cs (r .ands) (r .xors) (r .ites)) ⌝ }
@@ -47,8 +49,8 @@ fn mark_gates(
         ites: 0,
     };
     list_kinds(codes, index, kinds);
-    list_twos(codes, heads);
-    let found = mark_clauses(codes, index, kinds, heads, marks, none);
+    list_twos(codes, twos);
+    let found = mark_clauses(codes, index, kinds, twos, marks, none);
     let all = mark_ites(codes, index, kinds, heads, chain, marks, found);
     mark_pairs(codes, index, marks);
     all
@@ -61,7 +63,7 @@ pub struct Finding {
 }
 
 // Writes the normal form of a row at the start of the codes, and the marks of its gates at the start of the marks. Besides what
-// is lent it uses 61,440 numbers and 16,384 bytes of its own, 256 KB.
+// is lent it uses 88,066 numbers and 16,384 bytes of its own, 368,648 bytes.
 pub fn find_gates(row: &[i32], codes: &mut [u32], marks: &mut [u8]) -> Finding
     requires { ⌜ length (now row) ≤ maxEntries ⌝ }
     requires { ⌜ length (now row) ≤ length (now codes) ⌝ }
@@ -76,13 +78,15 @@ pub fn find_gates(row: &[i32], codes: &mut [u32], marks: &mut [u8]) -> Finding
 {
     let mut index = [0u32; 20480];
     let mut kinds = [0u8; 16384];
-    let mut heads = [0u32; 8192];
+    let mut seen = [0u32; 2050];
+    let mut heads = [0u32; 32768];
     let mut chain = [0u32; 32768];
-    let n = prepare(row, codes, &mut index, &mut heads);
+    let n = prepare(row, codes, &mut index, &mut seen);
     let counts = mark_gates(
         &codes[..n],
         &index,
         &mut kinds,
+        &mut seen,
         &mut heads,
         &mut chain,
         &mut marks[..n],

@@ -4,7 +4,7 @@ ghost use mathlib.Core.Path.{_≡_};
 ghost use mathlib.Core.Bool.{true, not, cond, _&&_};
 ghost use Prim.Native.Nat.{ℕ, _+_, _*_, _/_, _≤_, _<_};
 ghost use lib.Dec.{eqb, ltb};
-ghost use lib.ListN.{length, getD};
+ghost use lib.ListN.{length, getD, replicate};
 ghost use Rattle.clauses.specs.Code.{net};
 ghost use Rattle.clauses.specs.Lists.{keep};
 ghost use Rattle.gates.specs.Sign.{isInverse};
@@ -14,7 +14,6 @@ ghost use Rattle.gates.specs.Index.{Indexed};
 ghost use Rattle.gates.specs.Mark.{isFirst, Kinds, startOf};
 ghost use Rattle.gates.specs.Ites.{inThree, isPaired, halvesAt, half, allHalves, output, isMate, sideMark, Sided, pairsOf, halfBucket, Chained, Room};
 use crate::counts::Counts;
-use crate::fill::fill;
 use crate::literal::inverse;
 use crate::search::is_present;
 
@@ -129,15 +128,15 @@ fn link_place(
     }
 }
 
-// The chains of the halves at paired places.
+// The chains of the halves at paired places, from heads that are all 0.
 fn chain_paired(codes: &[u32], index: &[u32], kinds: &[u8], heads: &mut [u32], chain: &mut [u32])
     requires { ⌜ Indexed (now codes) (now index) ⌝ }
     requires { ⌜ Normal (now codes) ⌝ }
     requires { ⌜ Kinds (now codes) (now kinds) (length (now codes)) ⌝ }
     requires { ⌜ Room (now codes) (length (now heads)) (length (now chain)) ⌝ }
+    requires { ⌜ now heads ≡ replicate (length (now heads)) 0 ⌝ }
     ensures { λ _. ⌜ Chained (now (codes .entry)) (length (now (heads .entry))) (2 * length (now (codes .entry))) (now (heads .exit)) (now (chain .exit)) ⌝ }
 {
-    fill(heads, 0);
     let mut b = 0;
     let mut p = 0;
     while p < codes.len() {
@@ -302,6 +301,7 @@ pub fn mark_ites(
     requires { ⌜ Normal (now codes) ⌝ }
     requires { ⌜ Kinds (now codes) (now kinds) (length (now codes)) ⌝ }
     requires { ⌜ Room (now codes) (length (now heads)) (length (now chain)) ⌝ }
+    requires { ⌜ now heads ≡ replicate (length (now heads)) 0 ⌝ }
     requires { ⌜ (length (now codes) ≤ length (now marks)) × ((p : ℕ) → getD (now marks) p 0 < 2) ⌝ }
     requires { ⌜ counts .ites ≡ 0 ⌝ }
     ensures { λ r. ⌜ (r .ands ≡ counts .ands) × (r .xors ≡ counts .xors) ⌝ }

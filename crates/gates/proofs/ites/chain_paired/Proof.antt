@@ -18,16 +18,12 @@ Inv-loop codes index kinds heads₀ chain₀ b₀ p₀ heads chain b p =
 abbrev μ-loop : tie.MeasureT-loop
 μ-loop codes index kinds heads₀ chain₀ b₀ p₀ heads chain b p = length codes - p
 
-fill-requires : tie.Need-fill-requires Inv-loop μ-loop
-fill-requires c κs = tt
-
 loop-holds : tie.Need-loop-holds Inv-loop μ-loop
 unfolding startOf
-loop-holds c = (refl, refl, omega arith, refl, no-chain _ _ _ _ (length (now (c .before .before .before .before .before .before .before .before .before .args .heads))) (c .before .before .fill .ensures))
+loop-holds c = (refl, refl, omega arith, refl, no-chain _ _ _ _ (length (now (c .before .before .before .before .before .args .heads))) (c .before .before .before .before .before .pre .1 .1 .1 .1))
 
 link-place-requires : tie.Need-link-place-requires Inv-loop μ-loop
-link-place-requires c κs =
-    (c .before .before .before .before .before .before .before .before .before .before .before .before .before .pre .0, (c .before .before .before .before .before .before .before .before .before .before .before .before .before .pre .1 .0, (c .before .before .before .before .before .before .before .before .before .before .before .before .before .pre .1 .1 .0, ((omega (arith, c .before .before .loop-test .taken), c .before .before .before .loop .inv .3), (rw (c .before .before .before .loop .inv .0, c .before .before .before .before .before .before .fill .kept .0, c .before .before .before .loop .inv .1) (c .before .before .before .before .before .before .before .before .before .before .before .before .before .pre .1 .1 .1), rw (c .before .before .before .loop .inv .0) (c .before .before .before .loop .inv .4))))))
+link-place-requires c κs = (c .before .before .before .before .before .before .before .before .before .pre .0, (c .before .before .before .before .before .before .before .before .before .pre .1 .0, (c .before .before .before .before .before .before .before .before .before .pre .1 .1 .0, ((omega (arith, c .before .before .loop-test .taken), c .before .before .before .loop .inv .3), (rw (c .before .before .before .loop .inv .0, c .before .before .before .loop .inv .1) (c .before .before .before .before .before .before .before .before .before .pre .1 .1 .1 .0), rw (c .before .before .before .loop .inv .0) (c .before .before .before .loop .inv .4))))))
 
 next-start-requires : tie.Need-next-start-requires Inv-loop μ-loop
 next-start-requires c κs = (omega (arith, c .before .before .before .before .before .before .before .loop-test .taken), c .before .before .before .before .before .before .before .before .loop .inv .3)
@@ -48,13 +44,13 @@ loop-again c = (
 )
 
 same-length : tie.Need-same-length Inv-loop μ-loop
-same-length c = c .before .loop .inv .0 ∙ c .before .before .before .before .fill .kept .0
+same-length c = c .before .loop .inv .0
 
 same-length-2 : tie.Need-same-length-2 Inv-loop μ-loop
 same-length-2 c = c .before .loop .inv .1
 
 returns : tie.Need-returns Inv-loop μ-loop
-returns c = let z : c .before .loop .p ≡ length (now (c .before .before .before .before .before .before .before .before .before .before .before .args .codes)) = omega (arith, c .loop-test .left, c .before .loop .inv .2) in rw (z, c .before .before .before .before .fill .kept .0) at (c .before .loop .inv .4)
+returns c = let z : c .before .loop .p ≡ length (now (c .before .before .before .before .before .before .before .args .codes)) = omega (arith, c .loop-test .left, c .before .loop .inv .2) in rw z at (c .before .loop .inv .4)
 
 pub chain-paired-spec : {M : Type 1} → statement M
 chain-paired-spec =
@@ -62,7 +58,6 @@ chain-paired-spec =
     (tie.spec
     Inv-loop
     μ-loop
-    fill-requires
     loop-holds
     link-place-requires
     next-start-requires

@@ -5,10 +5,10 @@ use Rattle.gates.proofs.ites.mark_ites.Statement.{statement}
 use Rattle.gates.proofs.ites.mark_ites.Tie as tie
 
 chain-paired-requires : tie.Need-chain-paired-requires
-chain-paired-requires c κs = search needs
+chain-paired-requires c κs = (c .before .before .before .before .before .before .before .before .pre .0, (c .before .before .before .before .before .before .before .before .pre .1 .0, (c .before .before .before .before .before .before .before .before .pre .1 .1 .0, (c .before .before .before .before .before .before .before .before .pre .1 .1 .1 .0, c .before .before .before .before .before .before .before .before .pre .1 .1 .1 .1 .0))))
 
 mark-sides-requires : tie.Need-mark-sides-requires
-mark-sides-requires c κs = (c .before .before .before .before .before .before .before .before .before .before .before .before .before .before .before .before .pre .1 .0, (rw (c .before .before .before .before .before .before .before .chain-paired .kept .1 .1 .1 .0, c .before .before .before .before .before .before .before .chain-paired .kept .1 .1 .1 .1 .0) (c .before .before .before .before .before .before .before .before .before .before .before .before .before .before .before .before .pre .1 .1 .1 .0), (rw (c .before .before .before .before .before .before .before .chain-paired .kept .1 .1 .1 .0) (c .before .before .before .before .before .before .before .chain-paired .ensures), c .before .before .before .before .before .before .before .before .before .before .before .before .before .before .before .before .pre .1 .1 .1 .1)))
+mark-sides-requires c κs = (c .before .before .before .before .before .before .before .before .before .before .before .before .before .before .before .before .pre .1 .0, (rw (c .before .before .before .before .before .before .before .chain-paired .kept .1 .1 .1 .0, c .before .before .before .before .before .before .before .chain-paired .kept .1 .1 .1 .1 .0) (c .before .before .before .before .before .before .before .before .before .before .before .before .before .before .before .before .pre .1 .1 .1 .0), (rw (c .before .before .before .before .before .before .before .chain-paired .kept .1 .1 .1 .0) (c .before .before .before .before .before .before .before .chain-paired .ensures), c .before .before .before .before .before .before .before .before .before .before .before .before .before .before .before .before .pre .1 .1 .1 .1 .1)))
 
 same-length : tie.Need-same-length
 same-length c = search needs
