@@ -13,7 +13,7 @@ use lib.Seq.{drop-cons, take-suc-set}
 use Rattle.clauses.specs.Code.{negate}
 use Rattle.clauses.specs.Lists.{all}
 use Rattle.clauses.specs.Listing.{present}
-use Rattle.clauses.proofs.Lists.{mem-map, mem-of-map, all-have, have-all}
+use Rattle.clauses.proofs.Lists.{mem-map, mem-of-map, all-have, have-all, or-right}
 use Rattle.gates.specs.Sign.{plus, flip, isInverse}
 use Rattle.gates.specs.Listing.{signed}
 use Rattle.gates.specs.Mark.{masked, maskOdd}
@@ -86,7 +86,16 @@ signed-mask (l ∷ ls) b c k = go (List·Memᴰ·append-cases (map (λ d. l ∷ 
         subst⁻¹ (Mask (l ∷ ls) b) (o .is)
         (subst (λ (e : Bool). Mask (l ∷ ls) e (negate l ∷ o .of)) (Bool·not-not b) (mask-more l ls (not b) true (o .of) (ih (not b) (o .of) (o .in-list))))
 
+masked-none : (c : List ℕ) → masked 0 c ≡ c
+unfolding masked isInverse
+masked-none [] = refl
+masked-none (l ∷ c) = ap (λ (k : List ℕ). l ∷ k) (masked-none c)
+
 module _ (cs : List (List ℕ)) (c : List ℕ) where
+  -- the mask that changes nothing
+  pub mask-none : present cs c ≡ true → (maskOdd 0 c || present cs (masked 0 c)) ≡ true
+  mask-none h = or-right (maskOdd 0 c) (ap (present cs) (masked-none c) ∙ h)
+
   -- all masks pass
   pub masks-pass : ((m : ℕ) → m < 2 ^ length c → (maskOdd m c || present cs (masked m c)) ≡ true) → all (present cs) (signed c false) ≡ true
   masks-pass h =

@@ -1,7 +1,7 @@
 // The XORs, each by one of its clauses.
 
 ghost use mathlib.Core.Path.{_≡_};
-ghost use mathlib.Core.Bool.{false, not, _||_};
+ghost use mathlib.Core.Bool.{true, false, not, _||_};
 ghost use mathlib.Core.List.{map};
 ghost use Prim.Native.Nat.{_≤_, _^_};
 ghost use lib.ListN.{length, take};
@@ -119,16 +119,17 @@ fn mask_count(n: usize) -> u32
     m
 }
 
-// Whether the clause is present with any even number of its signs changed.
+// Whether the clause, which is present itself, is so with any even number of its signs changed.
 fn is_every_mask_present(codes: &[u32], index: &[u32], clause: &[u32]) -> bool
     requires { ⌜ Indexed (now codes) (now index) ⌝ }
     requires { ⌜ Normal (now codes) ⌝ }
     requires { ⌜ Once (map net (now clause)) ⌝ }
     requires { ⌜ length (now clause) ≤ 5 ⌝ }
+    requires { ⌜ present (clausesIn (now codes)) (now clause) ≡ true ⌝ }
     ensures { λ r. ⌜ r ≡ all (present (clausesIn (now (codes .entry)))) (signed (now (clause .entry)) false) ⌝ }
 {
     let top = mask_count(clause.len());
-    let mut m = 0;
+    let mut m = 1;
     while m < top {
         if !is_mask_present(codes, index, clause, m) {
             return false;
@@ -138,11 +139,12 @@ fn is_every_mask_present(codes: &[u32], index: &[u32], clause: &[u32]) -> bool
     true
 }
 
-// Whether the clause stands for an XOR, if it has three literals or more.
+// Whether the clause, which is present, stands for an XOR, if it has three literals or more.
 fn gives_xor(codes: &[u32], index: &[u32], clause: &[u32]) -> bool
     requires { ⌜ Indexed (now codes) (now index) ⌝ }
     requires { ⌜ Normal (now codes) ⌝ }
     requires { ⌜ Once (map net (now clause)) ⌝ }
+    requires { ⌜ present (clausesIn (now codes)) (now clause) ≡ true ⌝ }
     ensures { λ r. ⌜ r ≡ givesXor (clausesIn (now (codes .entry))) (now (clause .entry)) ⌝ }
 {
     if 5 < clause.len() {

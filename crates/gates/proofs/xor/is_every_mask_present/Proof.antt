@@ -2,7 +2,7 @@
 -- Assumes nothing.
 use mathlib.Core.Path.{_≡_, sym, _∙_}
 use mathlib.Core.Bool.{true, _||_}
-use Prim.Native.Nat.{ℕ, _-_, _≤_, _<_}
+use Prim.Native.Nat.{ℕ, _-_, _<_}
 use native.Mathlib.Omega.{arith}
 use denote.Ref.{now}
 use borrow.Author.Count.{below-more}
@@ -10,13 +10,13 @@ use borrow.Author.Tests.{not-false, not-true}
 use Rattle.clauses.specs.Clause.{clausesIn}
 use Rattle.clauses.specs.Listing.{present}
 use Rattle.gates.specs.Mark.{masked, maskOdd}
-use Rattle.gates.proofs.Masks.{masks-pass, mask-fails}
+use Rattle.gates.proofs.Masks.{masks-pass, mask-fails, mask-none}
 use borrow.Author.Needs.{needs}
 use Rattle.gates.proofs.xor.is_every_mask_present.Statement.{statement}
 use Rattle.gates.proofs.xor.is_every_mask_present.Tie as tie
 
 abbrev Inv-loop : tie.InvT-loop
-Inv-loop codes index clause top m₀ m = (m ≤ top) × ((k : ℕ) → k < m → (maskOdd k clause || present (clausesIn codes) (masked k clause)) ≡ true)
+Inv-loop codes index clause top m₀ m = (k : ℕ) → k < m → (maskOdd k clause || present (clausesIn codes) (masked k clause)) ≡ true
 
 abbrev μ-loop : tie.MeasureT-loop
 μ-loop codes index clause top m₀ m = top - m
@@ -25,7 +25,7 @@ mask-count-requires : tie.Need-mask-count-requires Inv-loop μ-loop
 mask-count-requires c κs = search needs
 
 loop-holds : tie.Need-loop-holds Inv-loop μ-loop
-loop-holds c = (omega arith, λ k h. absurd (omega arith))
+loop-holds c = λ k h. let z : k ≡ 0 = omega arith in rw z (mask-none _ _ (c .before .before .before .before .pre .1 .1 .1 .1))
 
 is-mask-present-requires : tie.Need-is-mask-present-requires Inv-loop μ-loop
 is-mask-present-requires c κs = search needs
@@ -40,10 +40,10 @@ loop-less : tie.Need-loop-less Inv-loop μ-loop
 loop-less c = search needs
 
 loop-again : tie.Need-loop-again Inv-loop μ-loop
-loop-again c = (omega arith, below-more _ _ (c .before .before .before .loop .inv .1) (sym (c .before .is-mask-present .ensures) ∙ not-false _ (c .if1 .left)))
+loop-again c = below-more _ _ (c .before .before .before .loop .inv) (sym (c .before .is-mask-present .ensures) ∙ not-false _ (c .if1 .left))
 
 returns-2 : tie.Need-returns-2 Inv-loop μ-loop
-returns-2 c = sym (masks-pass (clausesIn (now (c .before .before .before .before .before .before .args .codes))) (now (c .before .before .before .before .before .before .args .clause)) (λ k h. c .before .loop .inv .1 k (omega (arith, c .before .before .mask-count .ensures, c .loop-test .left))))
+returns-2 c = sym (masks-pass (clausesIn (now (c .before .before .before .before .before .before .args .codes))) (now (c .before .before .before .before .before .before .args .clause)) (λ k h. c .before .loop .inv k (omega (arith, c .before .before .mask-count .ensures, c .loop-test .left))))
 
 pub is-every-mask-present-spec : {M : Type 1} → statement M
 is-every-mask-present-spec =
