@@ -38,7 +38,7 @@ isFirst row b = isAt b (placeOf row (clauseAt row b))
 unfoldable pub isCandidate : List ℕ → ℕ → Bool
 isCandidate row b = leb 3 (length (clauseAt row b)) && isFirst row b
 
--- 2 for a candidate of three literals, 1 for another one, 0 for any other clause
+-- its kind: 2 for a candidate of three literals, 1 for a longer one, 0 for any other clause
 unfoldable pub kindOf : List ℕ → ℕ → ℕ
 kindOf row b = cond (isCandidate row b) (cond (eqb (length (clauseAt row b)) 3) 2 1) 0
 

@@ -38,7 +38,7 @@ fn is_candidate(codes: &[u32], index: &[u32], b: usize, end: usize) -> bool
     is_found_at(codes, index, &codes[b..end], b)
 }
 
-// 2 for a clause of these that has three literals, 1 for another one, 0 for any other clause.
+// The kind of the clause from b to end: 2 for such a one of three literals, 1 for a longer one, 0 for any other clause.
 fn kind_of(codes: &[u32], index: &[u32], b: usize, end: usize) -> u8
     requires { ⌜ Indexed (now codes) (now index) ⌝ }
     requires { ⌜ Normal (now codes) ⌝ }
