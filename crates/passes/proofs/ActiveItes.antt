@@ -8,12 +8,11 @@ use native.Mathlib.Omega.{arith}
 use native.Mathlib.Decide.{ℕ-discrete}
 use Rattle.clauses.specs.Code.{negate, net}
 use Rattle.clauses.proofs.Codes.{net-negate}
-use Rattle.gates.specs.Found.{LiteralAt}
 use Rattle.rules.specs.Answer.{leadOf}
 use Rattle.passes.specs.Making.{Kernel, JoinedBy}
 use Rattle.passes.specs.Passing.{leadAt}
 use Rattle.passes.specs.RowJoined.{SideAt, IteAt, ItesJoined}
-use Rattle.passes.specs.Parts.{Changed, Shares, HasSide, side}
+use Rattle.passes.specs.Parts.{Changed, SelectAt, SharesSelect, select}
 use Rattle.passes.specs.declared.tally.Tally.{Tally}
 use Rattle.passes.proofs.Searches.{lead-true, lead-negate}
 use Rattle.passes.proofs.JoinedBy.{joined-old, joined-back, joined-chain}
@@ -21,12 +20,12 @@ use Rattle.passes.proofs.PartPlaces.{side-copied}
 use Rattle.passes.proofs.UnchangedClauses.{Unchanged, unchanged-or-changed, kernel-before, kept-true, joined-before, select-kept, side-kept}
 use Rattle.passes.proofs.PartRounds.{PartRound, active-copied, changed-copied}
 
--- a changed clause with a lead of net w
-record ChangedWith (row older old : List ℕ) (w : ℕ) : Type 0 where
+-- a changed clause with a select whose lead is of net w
+record ChangedWith (row marks older old : List ℕ) (w : ℕ) : Type 0 where
   clause : ℕ
   changed : Changed row older old clause
   place : ℕ
-  at : LiteralAt row clause place
+  at : SelectAt row marks clause place
   lead : net (leadAt row old place) ≡ w
 
 -- neither side of the ITE has moved
@@ -41,8 +40,8 @@ inverse-lead old c = ap net (lead-negate old c) ∙ net-negate (leadOf old c)
 select-lead : {row marks : List ℕ} (old : List ℕ) {l c u : ℕ} (s : SideAt row marks l c u) → net (leadAt row old (s .place)) ≡ net (leadOf old c)
 select-lead old {c = c} s = ap (λ (x : ℕ). net (leadOf old x)) (s .select) ∙ inverse-lead old c
 
-side-here : {row marks : List ℕ} {l c u : ℕ} (s : SideAt row marks l c u) → HasSide row marks (s .start)
-side-here s = record { place = s .place; at = s .at; marked = ⊎-map (λ h. h .0) (λ h. h .0) (s .marked) }
+select-at : {row marks : List ℕ} {l c u : ℕ} (s : SideAt row marks l c u) → SelectAt row marks (s .start) (s .place)
+select-at s = record { at = s .at; marked = ⊎-map (λ h. h .0) (λ h. h .0) (s .marked) }
 
 -- a literal whose lead is a constant
 constant-lead : (old : List ℕ) (c : ℕ) → net (leadOf old c) ≡ 0 → Kernel old c 1 ⊎ Kernel old (negate c) 1
@@ -66,34 +65,34 @@ module _ {cs : List (List ℕ)} {row marks part partMarks older old new : List �
 
   -- The sides whose selects have one lead are all copied if one of them is changed
 
-  unchanged-or-with : {l c u e : ℕ} (i : IteAt row marks l c u e) → UnchangedIte older old i ⊎ ChangedWith row older old (net (leadOf old c))
+  unchanged-or-with : {l c u e : ℕ} (i : IteAt row marks l c u e) → UnchangedIte older old i ⊎ ChangedWith row marks older old (net (leadOf old c))
   unchanged-or-with {c = c} i =
       go (unchanged-or-changed row older old (i .then-side .start) (i .then-side .at .start)) (unchanged-or-changed row older old (i .else-side .start) (i .else-side .at .start))
     where
       go : Unchanged row older old (i .then-side .start) ⊎ Changed row older old (i .then-side .start)
-          → Unchanged row older old (i .else-side .start) ⊎ Changed row older old (i .else-side .start) → UnchangedIte older old i ⊎ ChangedWith row older old (net (leadOf old c))
+          → Unchanged row older old (i .else-side .start) ⊎ Changed row older old (i .else-side .start) → UnchangedIte older old i ⊎ ChangedWith row marks older old (net (leadOf old c))
       go (inl h) (inl k) = inl (record { thens = h; elses = k })
-      go (inr h) k = inr (record { clause = i .then-side .start; changed = h; place = i .then-side .place; at = i .then-side .at; lead = select-lead old (i .then-side) })
+      go (inr h) k = inr (record { clause = i .then-side .start; changed = h; place = i .then-side .place; at = select-at (i .then-side); lead = select-lead old (i .then-side) })
       go (inl h) (inr k) =
           inr
           (record {
             clause = i .else-side .start;
             changed = k;
             place = i .else-side .place;
-            at = i .else-side .at;
+            at = select-at (i .else-side);
             lead = select-lead old (i .else-side) ∙ inverse-lead old c;
           })
 
-  module _ {w : ℕ} (some : w ≢ 0) (h : ChangedWith row older old w) where
+  module _ {w : ℕ} (some : w ≢ 0) (h : ChangedWith row marks older old w) where
     side-in-part : {l c u : ℕ} → net (leadOf old c) ≡ w → SideAt row marks l c u → SideAt part partMarks l c u
-    side-in-part e s = side-copied (r .marked) s (active-copied r (s .start) (s .at .start) (side (side-here s) (h .clause) (h .changed) shared) .1)
+    side-in-part e s = side-copied (r .marked) s (active-copied r (s .start) (s .at .start) (select (h .clause) (h .changed) shared) .1)
       where
         lead : net (leadAt row old (s .place)) ≡ w
         lead = select-lead old s ∙ e
 
-        shared : Shares row old (s .start) (h .clause)
+        shared : SharesSelect row marks old (s .start) (h .clause)
         shared =
-            record { place = s .place; at = s .at; other = h .place; other-at = h .at; same = lead ∙ sym (h .lead); variable = λ z. some (sym lead ∙ z) }
+            record { place = s .place; select = select-at s; other = h .place; other-select = h .at; same = lead ∙ sym (h .lead); variable = λ z. some (sym lead ∙ z) }
 
     ite-in-part : {l c u e : ℕ} → net (leadOf old c) ≡ w → IteAt row marks l c u e → IteAt part partMarks l c u e
     ite-in-part {c = c} q i = record { then-side = side-in-part q (i .then-side); else-side = side-in-part (inverse-lead old c ∙ q) (i .else-side); apart = i .apart }
@@ -111,7 +110,7 @@ module _ {cs : List (List ℕ)} {row marks part partMarks older old new : List �
     thens : JoinedBy new t l u
     thens = go (ℕ-discrete (net (leadOf old c)) 0) (unchanged-or-with i)
       where
-        go : Dec (net (leadOf old c) ≡ 0) → UnchangedIte older old i ⊎ ChangedWith row older old (net (leadOf old c)) → JoinedBy new t l u
+        go : Dec (net (leadOf old c) ≡ 0) → UnchangedIte older old i ⊎ ChangedWith row marks older old (net (leadOf old c)) → JoinedBy new t l u
         go (yes z) h = thens-constant z
         go (no n) (inr h) = r .here .ites .thens l c u e (ite-in-part n h refl i) k
         go (no n) (inl h) =
@@ -137,10 +136,10 @@ module _ {cs : List (List ℕ)} {row marks part partMarks older old new : List �
     outputs : JoinedBy new t l m
     outputs = go (ℕ-discrete (net (leadOf old c)) 0) (unchanged-or-with i) (unchanged-or-with j)
       where
-        by-part : {w : ℕ} → w ≢ 0 → ChangedWith row older old w → net (leadOf old c) ≡ w → JoinedBy new t l m
+        by-part : {w : ℕ} → w ≢ 0 → ChangedWith row marks older old w → net (leadOf old c) ≡ w → JoinedBy new t l m
         by-part n h q = r .here .ites .outputs l c u e m d v f (ite-in-part n h q i) (ite-in-part n h (sym (ap net cd) ∙ q) j) cd uv ef
 
-        go : Dec (net (leadOf old c) ≡ 0) → UnchangedIte older old i ⊎ ChangedWith row older old (net (leadOf old c)) → UnchangedIte older old j ⊎ ChangedWith row older old (net (leadOf old d))
+        go : Dec (net (leadOf old c) ≡ 0) → UnchangedIte older old i ⊎ ChangedWith row marks older old (net (leadOf old c)) → UnchangedIte older old j ⊎ ChangedWith row marks older old (net (leadOf old d))
             → JoinedBy new t l m
         go (yes z) h k = outputs-constant z
         go (no n) (inr h) k = by-part n h refl

@@ -8,7 +8,7 @@ use Prim.Native.Nat.{ℕ, _+_, _-_, _*_, _/_, _%_, _≤_, _<_}
 use native.Mathlib.Omega.{arith}
 use native.Mathlib.Decide.{decLt, ℕ-discrete}
 use lib.Dec.{eqb}
-use lib.ListN.{length, getD, set, replicate, List·getD-eq-default}
+use lib.ListN.{length, getD, set, replicate, length-set, List·getD-eq-default}
 use lib.Seq.{getD-set-same, getD-set-other}
 use borrow.Author.Tests.{eq-eqb, ne-eqb, eqb-true}
 use Rattle.clauses.specs.Code.{net}
@@ -22,8 +22,8 @@ use Rattle.gates.proofs.Signs.{net-flip}
 use Rattle.rules.specs.Answer.{leadOf}
 use Rattle.passes.specs.Passing.{leadAt, First}
 use Rattle.passes.specs.Xors.{LeadRow}
-use Rattle.passes.specs.Parts.{Moved, Changed, Shares, HasSide, Active, changed, side, two}
-use Rattle.passes.specs.Taking.{netAt, Indexed, HasMark, Keeps, hasMoved, isTouched, Touched, SeenTouched, SeesMoved, TwoTouched, SeesTouched, Sees, Took}
+use Rattle.passes.specs.Parts.{Moved, Changed, Shares, Active, changed, select, two}
+use Rattle.passes.specs.Taking.{netAt, Indexed, HasMark, Keeps, hasMoved, isTouched, asSelect, TouchedBy, Touched, SeenTouched, SeesMoved, TwoTouched, SelectTouched, SeesTouched, Sees, Took}
 use Rattle.passes.proofs.Joining.{lead-constant, lead-inside}
 use Rattle.passes.proofs.Maps.{zeros}
 use Rattle.passes.proofs.MarkCounts.{count-more}
@@ -53,11 +53,27 @@ places-more P b q before here k l h = go (ℕ-discrete k q)
     go (yes e) = subst⁻¹ P e here
     go (no n) = before k l (omega arith)
 
-pub touched-more : (codes old touched : List ℕ) (b q : ℕ) → net (leadAt codes old q) < length touched → Touched codes old touched b q
-    → Touched codes old (set touched (net (leadAt codes old q)) 1) b (q + 1)
-touched-more codes old touched b q h t =
-    let w = net (leadAt codes old q) in
-    places-more (λ k. HasMark (set touched w 1) (net (leadAt codes old k))) b q (λ k l s. mark-keeps touched w 1 (λ e. omega arith) (net (leadAt codes old k)) (t k l s)) (mark-here touched w 1 h (λ e. omega arith))
+-- what is touched stays so
+touched-keeps : (mark n : ℕ) (touched touched′ : List ℕ) → Keeps touched touched′ → TouchedBy mark touched n → TouchedBy mark touched′ n
+touched-keeps mark n touched touched′ keeps t = (keeps n (t .0), λ h. keeps (asSelect n) (t .1 h))
+
+-- net n is touched, by one mark or by two
+module _ (touched : List ℕ) (n mark : ℕ) (room : asSelect n < length touched) where
+  pub touched-plain : mark < 2 → Keeps touched (set touched n 1) × TouchedBy mark (set touched n 1) n
+  touched-plain h = (mark-keeps touched n 1 (λ e. omega arith), (mark-here touched n 1 (omega arith) (λ e. omega arith), λ k. absurd (omega arith)))
+
+  pub touched-select : Keeps touched (set (set touched n 1) (asSelect n) 1) × TouchedBy mark (set (set touched n 1) (asSelect n) 1) n
+  touched-select =
+      let first = set touched n 1 in
+      let keeps = mark-keeps first (asSelect n) 1 (λ e. omega arith) in (
+        λ x h. keeps x (mark-keeps touched n 1 (λ e. omega arith) x h),
+        (keeps n (mark-here touched n 1 (omega arith) (λ e. omega arith)), λ k. mark-here first (asSelect n) 1 (omega (arith, length-set touched n 1)) (λ e. omega arith)),
+      )
+
+pub touched-more : (codes marks old touched touched′ : List ℕ) (b q : ℕ) → Keeps touched touched′ → TouchedBy (getD marks q 0) touched′ (net (leadAt codes old q)) → Touched codes marks old touched b q
+    → Touched codes marks old touched′ b (q + 1)
+touched-more codes marks old touched touched′ b q keeps here t =
+    places-more (λ k. TouchedBy (getD marks k 0) touched′ (net (leadAt codes old k))) b q (λ k l s. touched-keeps (getD marks k 0) (net (leadAt codes old k)) touched touched′ keeps (t k l s)) here
 
 -- What is seen
 
@@ -137,17 +153,17 @@ pub nets-first : (f : ℕ → Bool) (P : ℕ → Type 0) (r v : ℕ) → First f
 nets-first f P r v first x l t = absurd (true≢false (sym t ∙ first .before x (omega arith) l))
 
 -- one more clause that is seen and touched
-pub touched-took : (codes old seen seen′ touched touched′ : List ℕ) (b : ℕ) → Took codes b seen seen′ → SeenTouched codes old seen touched → Keeps touched touched′
-    → Touched codes old touched′ b (b + length (clauseAt codes b)) → SeenTouched codes old seen′ touched′
-touched-took codes old seen seen′ touched touched′ b took t keeps here d s m = go (took .only d s m)
+pub touched-took : (codes marks old seen seen′ touched touched′ : List ℕ) (b : ℕ) → Took codes b seen seen′ → SeenTouched codes marks old seen touched → Keeps touched touched′
+    → Touched codes marks old touched′ b (b + length (clauseAt codes b)) → SeenTouched codes marks old seen′ touched′
+touched-took codes marks old seen seen′ touched touched′ b took t keeps here d s m = go (took .only d s m)
   where
-    go : (d ≡ b) ⊎ HasMark seen d → Touched codes old touched′ d (d + length (clauseAt codes d))
+    go : (d ≡ b) ⊎ HasMark seen d → Touched codes marks old touched′ d (d + length (clauseAt codes d))
     go (inl e) = rw e here
-    go (inr h) = λ q i j. keeps (net (leadAt codes old q)) (t d s h q i j)
+    go (inr h) = λ q i j. touched-keeps (getD marks q 0) (net (leadAt codes old q)) touched touched′ keeps (t d s h q i j)
 
 -- nothing is seen yet
-pub none-touched : (codes old seen touched : List ℕ) (m : ℕ) → seen ≡ replicate m 0 → SeenTouched codes old seen touched
-none-touched codes old seen touched m e d s h = absurd (h (ap (λ (l : List ℕ). getD l d 0) e ∙ zeros m d))
+pub none-touched : (codes marks old seen touched : List ℕ) (m : ℕ) → seen ≡ replicate m 0 → SeenTouched codes marks old seen touched
+none-touched codes marks old seen touched m e d s h = absurd (h (ap (λ (l : List ℕ). getD l d 0) e ∙ zeros m d))
 
 -- What is touched
 
@@ -186,9 +202,11 @@ unfolding isSelectNext isSelectAfter
 side-mark m (inl h) = omega (arith, eqb-true (m / 2 % 2) 1 h)
 side-mark m (inr h) = omega (arith, eqb-true (m / 4 % 2) 1 h)
 
--- a search for the mark of a side finds one
-pub side-found : (codes marks : List ℕ) (b e : ℕ) → e ≡ b + length (clauseAt codes b) → (r : Bool) → ((q : ℕ) → b ≤ q → q < e → 2 ≤ getD marks q 0 → r ≡ true) → HasSide codes marks b → r ≡ true
-side-found codes marks b e end r found h = found (h .place) (h .at .low) (omega (arith, h .at .high)) (side-mark (getD marks (h .place) 0) (h .marked))
+-- a search for a select whose lead is touched finds one
+pub select-found : (codes marks old touched : List ℕ) (b e : ℕ) → e ≡ b + length (clauseAt codes b) → (r : Bool)
+    → ((q : ℕ) → b ≤ q → q < e → 2 ≤ getD marks q 0 → HasMark touched (asSelect (net (leadAt codes old q))) → r ≡ true) → SelectTouched codes marks old touched b → r ≡ true
+select-found codes marks old touched b e end r found h =
+    found (h .place) (h .select .at .low) (omega (arith, h .select .at .high)) (side-mark (getD marks (h .place) 0) (h .select .marked)) (h .touched-so)
 
 -- two touched leads of different nets are found by a search for one and for another one behind it
 module _ (codes old touched : List ℕ) (b e : ℕ) (end : e ≡ b + length (clauseAt codes b)) where
@@ -264,19 +282,19 @@ module _ (codes marks starts heads next older old : List ℕ) (index : Indexed c
         subst (HasMark seen) (start-is-clause d q (s .at) n)
         (sees (net c - 1) (place-inside q n) (has-moved older old (net c - 1) moved) q (literal-inside codes d q (s .at)) (sym (place-of q n)))
 
-  module _ (touched first : List ℕ) (sees : SeesMoved codes starts older old (length old) first) (touches : SeenTouched codes old first touched) where
-    changed-touched : (d q : ℕ) → Changed codes older old d → LiteralAt codes d q → HasMark touched (net (leadAt codes old q))
+  module _ (touched first : List ℕ) (sees : SeesMoved codes starts older old (length old) first) (touches : SeenTouched codes marks old first touched) where
+    changed-touched : (d q : ℕ) → Changed codes older old d → LiteralAt codes d q → TouchedBy (getD marks q 0) touched (net (leadAt codes old q))
     changed-touched d q s l = touches d (l .start) (changed-seen first sees d s) q (l .low) (l .high)
 
     shares-variable : (b d : ℕ) (s : Shares codes old b d) → netAt codes (s .place) ≢ 0
     shares-variable b d s z = s .variable (omega (arith, leads .low (getD codes (s .place) 0)))
 
     shares-touched : (b d : ℕ) → Changed codes older old d → (s : Shares codes old b d) → isTouched touched 0 (net (leadAt codes old (s .place))) ≡ true
-    shares-touched b d t s = is-touched touched 0 _ (s .variable) (s .variable) (subst (HasMark touched) (sym (s .same)) (changed-touched d (s .other) t (s .other-at)))
+    shares-touched b d t s = is-touched touched 0 _ (s .variable) (s .variable) (subst (HasMark touched) (sym (s .same)) (changed-touched d (s .other) t (s .other-at) .0))
 
     -- a clause that is due and shares a touched lead is seen
     module _ (seen : List ℕ) (keeps : Keeps first seen) (all : SeesTouched codes marks starts old touched (length old) seen) where
-      shares-seen : (b d : ℕ) → Changed codes older old d → Shares codes old b d → HasSide codes marks b ⊎ TwoTouched codes old touched b → HasMark seen b
+      shares-seen : (b d : ℕ) → Changed codes older old d → Shares codes old b d → SelectTouched codes marks old touched b ⊎ TwoTouched codes old touched b → HasMark seen b
       shares-seen b d t s due =
           let q = s .place in
           let c = getD codes q 0 in
@@ -285,11 +303,20 @@ module _ (codes marks starts heads next older old : List ℕ) (index : Indexed c
           let lead : net (leadOf old c) ≡ net (getD old (net c - 1) 0) = net-lead old c n (nets q) in
           subst (HasMark seen) e
           (all (net c - 1) (place-inside q n) (subst (λ (x : ℕ). isTouched touched 0 x ≡ true) lead (shares-touched b d t s)) q (literal-inside codes b q (s .at)) (sym (place-of q n))
-          (subst⁻¹ (λ (x : ℕ). HasSide codes marks x ⊎ TwoTouched codes old touched x) e due))
+          (subst⁻¹ (λ (x : ℕ). SelectTouched codes marks old touched x ⊎ TwoTouched codes old touched x) e due))
 
       pub active-seen : (b : ℕ) → Active codes marks older old b → HasMark seen b
       active-seen b (changed s) = keeps b (changed-seen first sees b s)
-      active-seen b (side h d s k) = shares-seen b d s k (inl h)
+      active-seen b (select d s k) =
+          shares-seen b d s
+          (record { place = k .place; at = k .select .at; other = k .other; other-at = k .other-select .at; same = k .same; variable = k .variable })
+          (inl
+          (record {
+            place = k .place;
+            select = k .select;
+            touched-so = subst (λ (n : ℕ). HasMark touched (asSelect n)) (sym (k .same))
+                (changed-touched d (k .other) s (k .other-select .at) .1 (side-mark (getD marks (k .other) 0) (k .other-select .marked)));
+          }))
       active-seen b (two d s k) =
           shares-seen b d s (k .first)
           (inr

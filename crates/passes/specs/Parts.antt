@@ -54,17 +54,25 @@ pub record SharesTwo (row old : List ℕ) (b d : ℕ) : Type 0 where
   pub second : Shares row old b d
   pub apart : net (leadAt row old (first .place)) ≢ net (leadAt row old (second .place))
 
--- the clause at b has a side of an ITE
-pub record HasSide (row marks : List ℕ) (b : ℕ) : Type 0 where
+-- place p of the clause at b holds the inverse of a select of ITEs
+pub record SelectAt (row marks : List ℕ) (b p : ℕ) : Type 0 where
+  pub at : LiteralAt row b p
+  pub marked : (isSelectNext (getD marks p 0) ≡ true) ⊎ (isSelectAfter (getD marks p 0) ≡ true)
+
+-- selects of ITEs in the clauses at b and d have leads of one net
+pub record SharesSelect (row marks old : List ℕ) (b d : ℕ) : Type 0 where
   pub place : ℕ
-  pub at : LiteralAt row b place
-  pub marked : (isSelectNext (getD marks place 0) ≡ true) ⊎ (isSelectAfter (getD marks place 0) ≡ true)
+  pub select : SelectAt row marks b place
+  pub other : ℕ
+  pub other-select : SelectAt row marks d other
+  pub same : net (leadAt row old place) ≡ net (leadAt row old other)
+  pub variable : net (leadAt row old place) ≢ 0
 
 -- a round other than the first has to go over the clause at b: two ANDs or XORs that a rule takes together share the leads of two nets, or the
 -- rules about one gate alone join them; two ITEs share that of the select
 pub data Active (row marks older old : List ℕ) (b : ℕ) : Type 0 where
   changed : Changed row older old b → Active row marks older old b
-  side : HasSide row marks b → (d : ℕ) → Changed row older old d → Shares row old b d → Active row marks older old b
+  select : (d : ℕ) → Changed row older old d → SharesSelect row marks old b d → Active row marks older old b
   two : (d : ℕ) → Changed row older old d → SharesTwo row old b d → Active row marks older old b
 
 -- every active clause is in the part

@@ -13,7 +13,7 @@ use Rattle.clauses.specs.Code.{net}
 use Rattle.gates.specs.Found.{clauseAt, Starts, LiteralAt}
 use Rattle.passes.specs.Passing.{leadAt}
 use Rattle.passes.specs.Sides.{Chained}
-use Rattle.passes.specs.Parts.{Copy, Part, HasSide}
+use Rattle.passes.specs.Parts.{Copy, Part, SelectAt}
 
 -- The row by its nets
 
@@ -57,13 +57,21 @@ hasMoved older old w = not (eqb (getD older w 0) (getD old w 0))
 unfoldable pub isTouched : List ℕ → ℕ → ℕ → Bool
 isTouched touched skip n = not (eqb n 0) && (not (eqb n skip) && not (eqb (getD touched n 0) 0))
 
+-- the row has an entry for each net, and behind these one for each net as a select
+abbrev pub asSelect : ℕ → ℕ
+asSelect n = maxNets + 1 + n
+
+-- net n is touched, and as a select if the mark is that of one
+abbrev pub TouchedBy : ℕ → List ℕ → ℕ → Type 0
+TouchedBy mark touched n = HasMark touched n × (2 ≤ mark → HasMark touched (asSelect n))
+
 -- the leads from place b up to e are touched
-abbrev pub Touched : List ℕ → List ℕ → List ℕ → ℕ → ℕ → Type 0
-Touched codes old touched b e = (q : ℕ) → b ≤ q → q < e → HasMark touched (net (leadAt codes old q))
+abbrev pub Touched : List ℕ → List ℕ → List ℕ → List ℕ → ℕ → ℕ → Type 0
+Touched codes marks old touched b e = (q : ℕ) → b ≤ q → q < e → TouchedBy (getD marks q 0) touched (net (leadAt codes old q))
 
 -- the leads of the clauses that are seen are touched
-abbrev pub SeenTouched : List ℕ → List ℕ → List ℕ → List ℕ → Type 0
-SeenTouched codes old seen touched = (d : ℕ) → Starts codes d → HasMark seen d → Touched codes old touched d (d + length (clauseAt codes d))
+abbrev pub SeenTouched : List ℕ → List ℕ → List ℕ → List ℕ → List ℕ → Type 0
+SeenTouched codes marks old seen touched = (d : ℕ) → Starts codes d → HasMark seen d → Touched codes marks old touched d (d + length (clauseAt codes d))
 
 -- the clauses of net w are seen
 abbrev pub SeesNet : List ℕ → List ℕ → ℕ → List ℕ → Type 0
@@ -83,9 +91,15 @@ pub record TwoTouched (codes old touched : List ℕ) (b : ℕ) : Type 0 where
   pub second-touched : isTouched touched 0 (net (leadAt codes old second)) ≡ true
   pub apart : net (leadAt codes old first) ≢ net (leadAt codes old second)
 
+-- the lead of a select in the clause at b is touched as that of a select
+pub record SelectTouched (codes marks old touched : List ℕ) (b : ℕ) : Type 0 where
+  pub place : ℕ
+  pub select : SelectAt codes marks b place
+  pub touched-so : HasMark touched (asSelect (net (leadAt codes old place)))
+
 -- the clause at b, of which a lead is touched, has to be taken
 abbrev pub Due : List ℕ → List ℕ → List ℕ → List ℕ → ℕ → Type 0
-Due codes marks old touched b = HasSide codes marks b ⊎ TwoTouched codes old touched b
+Due codes marks old touched b = SelectTouched codes marks old touched b ⊎ TwoTouched codes old touched b
 
 -- the clauses of net w that are due are seen
 abbrev pub SeesDue : List ℕ → List ℕ → List ℕ → List ℕ → List ℕ → ℕ → List ℕ → Type 0

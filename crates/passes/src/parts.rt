@@ -1,7 +1,7 @@
 // The part of a row that a round has to go over: the clauses of which a lead has changed, and those that are due for the leads of one.
 
 ghost use mathlib.Core.Path.{_≡_};
-ghost use Prim.Native.Nat.{ℕ, _+_, _≤_, _<_};
+ghost use Prim.Native.Nat.{ℕ, _+_, _*_, _≤_, _<_};
 ghost use lib.ListN.{length, getD, take};
 ghost use Rattle.clauses.specs.Code.{net};
 ghost use Rattle.clauses.specs.Limit.{maxNets};
@@ -9,7 +9,7 @@ ghost use Rattle.gates.specs.Found.{clauseAt, Starts};
 ghost use Rattle.passes.specs.Passing.{leadAt};
 ghost use Rattle.passes.specs.Xors.{LeadRow};
 ghost use Rattle.passes.specs.Parts.{Ended, Part, HoldsActive};
-ghost use Rattle.passes.specs.Taking.{Indexed, Keeps, SeenTouched, SeesNet, SeesMoved, Due, SeesDue, SeesTouched, HasMark, Sees, Laid, Taken, Took};
+ghost use Rattle.passes.specs.Taking.{Indexed, Keeps, asSelect, SeenTouched, SeesNet, SeesMoved, Due, SeesDue, SeesTouched, HasMark, Sees, Laid, Taken, Took};
 use crate::touched::is_due;
 use crate::touched::next_moved;
 use crate::touched::next_touched;
@@ -94,16 +94,16 @@ fn take_changed(
 ) -> usize
     requires { ⌜ Starts (now codes) b × (e ≡ b + length (clauseAt (now codes) b)) × (e < length (now codes)) ⌝ }
     requires { ⌜ (length (now marks) ≡ length (now codes)) × (length (now codes) ≤ length (now seen)) × (length (now seen) ≤ length (now part)) × (length (now seen) ≤ length (now tags)) ⌝ }
-    requires { ⌜ ((q : ℕ) → net (leadAt (now codes) (now old) q) < length (now touched)) ⌝ }
-    requires { ⌜ Taken (now codes) (now marks) (now seen) (now part) (now tags) n × SeenTouched (now codes) (now old) (now seen) (now touched) ⌝ }
+    requires { ⌜ ((q : ℕ) → asSelect (net (leadAt (now codes) (now old) q)) < length (now touched)) ⌝ }
+    requires { ⌜ Taken (now codes) (now marks) (now seen) (now part) (now tags) n × SeenTouched (now codes) (now marks) (now old) (now seen) (now touched) ⌝ }
     ensures taken { λ r. ⌜ Taken (now (codes .entry)) (now (marks .entry)) (now (seen .exit)) (now (part .exit)) (now (tags .exit)) r ⌝ }
-    ensures touched { λ _. ⌜ SeenTouched (now (codes .entry)) (now (old .entry)) (now (seen .exit)) (now (touched .exit)) ⌝ }
+    ensures touched { λ _. ⌜ SeenTouched (now (codes .entry)) (now (marks .entry)) (now (old .entry)) (now (seen .exit)) (now (touched .exit)) ⌝ }
     ensures sees { λ _. ⌜ Keeps (now (seen .entry)) (now (seen .exit)) × HasMark (now (seen .exit)) b ⌝ }
 {
     if seen[b] != 0 {
         return n;
     }
-    touch(codes, b, e, old, touched);
+    touch(codes, marks, b, e, old, touched);
     take_clause(codes, marks, b, e, seen, part, tags, n)
 }
 
@@ -124,10 +124,10 @@ fn take_changed_chain(
 ) -> usize
     requires { ⌜ Indexed (now codes) (now starts) (now heads) (now next) × Ended (now codes) × (0 < w) × (w < length (now heads)) ⌝ }
     requires { ⌜ (length (now marks) ≡ length (now codes)) × (length (now codes) ≤ length (now seen)) × (length (now seen) ≤ length (now part)) × (length (now seen) ≤ length (now tags)) ⌝ }
-    requires { ⌜ ((q : ℕ) → net (leadAt (now codes) (now old) q) < length (now touched)) ⌝ }
-    requires { ⌜ Taken (now codes) (now marks) (now seen) (now part) (now tags) m × SeenTouched (now codes) (now old) (now seen) (now touched) ⌝ }
+    requires { ⌜ ((q : ℕ) → asSelect (net (leadAt (now codes) (now old) q)) < length (now touched)) ⌝ }
+    requires { ⌜ Taken (now codes) (now marks) (now seen) (now part) (now tags) m × SeenTouched (now codes) (now marks) (now old) (now seen) (now touched) ⌝ }
     ensures taken { λ r. ⌜ Taken (now (codes .entry)) (now (marks .entry)) (now (seen .exit)) (now (part .exit)) (now (tags .exit)) r ⌝ }
-    ensures touched { λ _. ⌜ SeenTouched (now (codes .entry)) (now (old .entry)) (now (seen .exit)) (now (touched .exit)) ⌝ }
+    ensures touched { λ _. ⌜ SeenTouched (now (codes .entry)) (now (marks .entry)) (now (old .entry)) (now (seen .exit)) (now (touched .exit)) ⌝ }
     ensures sees { λ _. ⌜ Keeps (now (seen .entry)) (now (seen .exit)) × SeesNet (now (codes .entry)) (now (starts .entry)) w (now (seen .exit)) ⌝ }
 {
     let mut n = m;
@@ -159,10 +159,10 @@ fn take_all_changed(
     requires { ⌜ Indexed (now codes) (now starts) (now heads) (now next) × Ended (now codes) ⌝ }
     requires { ⌜ (length (now older) ≡ length (now old)) × (length (now old) ≤ maxNets) ⌝ }
     requires { ⌜ (length (now marks) ≡ length (now codes)) × (length (now codes) ≤ length (now seen)) × (length (now seen) ≤ length (now part)) × (length (now seen) ≤ length (now tags)) ⌝ }
-    requires { ⌜ ((q : ℕ) → net (leadAt (now codes) (now old) q) < length (now touched)) ⌝ }
-    requires { ⌜ Taken (now codes) (now marks) (now seen) (now part) (now tags) 0 × SeenTouched (now codes) (now old) (now seen) (now touched) ⌝ }
+    requires { ⌜ ((q : ℕ) → asSelect (net (leadAt (now codes) (now old) q)) < length (now touched)) ⌝ }
+    requires { ⌜ Taken (now codes) (now marks) (now seen) (now part) (now tags) 0 × SeenTouched (now codes) (now marks) (now old) (now seen) (now touched) ⌝ }
     ensures taken { λ r. ⌜ Taken (now (codes .entry)) (now (marks .entry)) (now (seen .exit)) (now (part .exit)) (now (tags .exit)) r ⌝ }
-    ensures touched { λ _. ⌜ SeenTouched (now (codes .entry)) (now (old .entry)) (now (seen .exit)) (now (touched .exit)) ⌝ }
+    ensures touched { λ _. ⌜ SeenTouched (now (codes .entry)) (now (marks .entry)) (now (old .entry)) (now (seen .exit)) (now (touched .exit)) ⌝ }
     ensures sees { λ _. ⌜ SeesMoved (now (codes .entry)) (now (starts .entry)) (now (older .entry)) (now (old .entry)) (length (now (old .entry))) (now (seen .exit)) ⌝ }
 {
     let mut n = 0;
@@ -202,7 +202,7 @@ fn take_due(
 ) -> usize
     requires { ⌜ Starts (now codes) b × (e ≡ b + length (clauseAt (now codes) b)) × (e < length (now codes)) ⌝ }
     requires { ⌜ (length (now marks) ≡ length (now codes)) × (length (now codes) ≤ length (now seen)) × (length (now seen) ≤ length (now part)) × (length (now seen) ≤ length (now tags)) ⌝ }
-    requires { ⌜ ((q : ℕ) → net (leadAt (now codes) (now old) q) < length (now touched)) ⌝ }
+    requires { ⌜ ((q : ℕ) → asSelect (net (leadAt (now codes) (now old) q)) < length (now touched)) ⌝ }
     requires { ⌜ Taken (now codes) (now marks) (now seen) (now part) (now tags) n ⌝ }
     ensures taken { λ r. ⌜ Taken (now (codes .entry)) (now (marks .entry)) (now (seen .exit)) (now (part .exit)) (now (tags .exit)) r ⌝ }
     ensures sees { λ _. ⌜ Keeps (now (seen .entry)) (now (seen .exit)) × (Due (now (codes .entry)) (now (marks .entry)) (now (old .entry)) (now (touched .entry)) b → HasMark (now (seen .exit)) b) ⌝ }
@@ -233,7 +233,7 @@ fn take_due_chain(
 ) -> usize
     requires { ⌜ Indexed (now codes) (now starts) (now heads) (now next) × Ended (now codes) × (0 < w) × (w < length (now heads)) ⌝ }
     requires { ⌜ (length (now marks) ≡ length (now codes)) × (length (now codes) ≤ length (now seen)) × (length (now seen) ≤ length (now part)) × (length (now seen) ≤ length (now tags)) ⌝ }
-    requires { ⌜ ((q : ℕ) → net (leadAt (now codes) (now old) q) < length (now touched)) ⌝ }
+    requires { ⌜ ((q : ℕ) → asSelect (net (leadAt (now codes) (now old) q)) < length (now touched)) ⌝ }
     requires { ⌜ Taken (now codes) (now marks) (now seen) (now part) (now tags) m ⌝ }
     ensures taken { λ r. ⌜ Taken (now (codes .entry)) (now (marks .entry)) (now (seen .exit)) (now (part .exit)) (now (tags .exit)) r ⌝ }
     ensures sees { λ _. ⌜ Keeps (now (seen .entry)) (now (seen .exit)) × SeesDue (now (codes .entry)) (now (marks .entry)) (now (starts .entry)) (now (old .entry)) (now (touched .entry)) w (now (seen .exit)) ⌝ }
@@ -266,7 +266,7 @@ fn take_all_due(
 ) -> usize
     requires { ⌜ Indexed (now codes) (now starts) (now heads) (now next) × Ended (now codes) × (length (now old) ≤ maxNets) ⌝ }
     requires { ⌜ (length (now marks) ≡ length (now codes)) × (length (now codes) ≤ length (now seen)) × (length (now seen) ≤ length (now part)) × (length (now seen) ≤ length (now tags)) ⌝ }
-    requires { ⌜ ((q : ℕ) → net (leadAt (now codes) (now old) q) < length (now touched)) × ((w : ℕ) → net (getD (now old) w 0) < length (now touched)) ⌝ }
+    requires { ⌜ ((q : ℕ) → asSelect (net (leadAt (now codes) (now old) q)) < length (now touched)) × ((w : ℕ) → net (getD (now old) w 0) < length (now touched)) ⌝ }
     requires { ⌜ Taken (now codes) (now marks) (now seen) (now part) (now tags) m ⌝ }
     ensures taken { λ r. ⌜ Taken (now (codes .entry)) (now (marks .entry)) (now (seen .exit)) (now (part .exit)) (now (tags .exit)) r ⌝ }
     ensures sees { λ _. ⌜ Keeps (now (seen .entry)) (now (seen .exit)) × SeesTouched (now (codes .entry)) (now (marks .entry)) (now (starts .entry)) (now (old .entry)) (now (touched .entry)) (length (now (old .entry))) (now (seen .exit)) ⌝ }
@@ -310,7 +310,7 @@ pub fn take_active(
     requires { ⌜ Ended (now codes) × (length (now marks) ≡ length (now codes)) ⌝ }
     requires { ⌜ Indexed (now codes) (now starts) (now heads) (now next) ⌝ }
     requires { ⌜ ((q : ℕ) → net (getD (now codes) q 0) ≤ length (now old)) × LeadRow (now old) ⌝ }
-    requires { ⌜ (length (now older) ≡ length (now old)) × (length (now old) ≤ maxNets) × (maxNets + 1 ≤ length (now touched)) ⌝ }
+    requires { ⌜ (length (now older) ≡ length (now old)) × (length (now old) ≤ maxNets) × (2 * maxNets + 2 ≤ length (now touched)) ⌝ }
     requires { ⌜ (length (now codes) ≤ length (now seen)) × (length (now seen) ≤ length (now part)) × (length (now seen) ≤ length (now tags)) ⌝ }
     ensures { λ r. ⌜ r ≤ length (now (seen .entry)) ⌝ }
     ensures { λ r. ⌜ Part (now (codes .entry)) (now (marks .entry)) (take r (now (part .exit))) (take r (now (tags .exit))) ⌝ }

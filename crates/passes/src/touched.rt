@@ -7,8 +7,11 @@ ghost use lib.ListN.{length, getD};
 ghost use Rattle.clauses.specs.Code.{net};
 ghost use Rattle.gates.specs.Found.{clauseAt, Starts};
 ghost use Rattle.passes.specs.Passing.{leadAt, First};
-ghost use Rattle.passes.specs.Taking.{hasMoved, isTouched, Keeps, Touched, Due};
+ghost use Rattle.passes.specs.Taking.{hasMoved, isTouched, HasMark, Keeps, asSelect, TouchedBy, Touched, Due};
 use crate::lead::lead_of;
+
+// Where the entries of the nets as selects begin.
+const SELECTS: usize = 1025;
 
 // The first net from place `from` of the leads on whose lead has changed, by its place; the number of nets where there is none.
 pub fn next_moved(older: &[u32], old: &[u32], from: usize) -> usize
@@ -25,15 +28,26 @@ pub fn next_moved(older: &[u32], old: &[u32], from: usize) -> usize
     w
 }
 
+// Touches net n, and as a select if the mark is that of one.
+fn touch_net(touched: &mut [u8], n: usize, mark: u8)
+    requires { ⌜ asSelect n < length (now touched) ⌝ }
+    ensures { λ _. ⌜ Keeps (now (touched .entry)) (now (touched .exit)) × TouchedBy mark (now (touched .exit)) n ⌝ }
+{
+    touched[n] = 1;
+    if 2 <= mark {
+        touched[SELECTS + n] = 1;
+    }
+}
+
 // Touches the leads from place b up to e.
-pub fn touch(codes: &[u32], b: usize, e: usize, old: &[u32], touched: &mut [u8])
-    requires { ⌜ e ≤ length (now codes) ⌝ }
-    requires { ⌜ ((q : ℕ) → net (leadAt (now codes) (now old) q) < length (now touched)) ⌝ }
-    ensures { λ _. ⌜ Keeps (now (touched .entry)) (now (touched .exit)) × Touched (now (codes .entry)) (now (old .entry)) (now (touched .exit)) b e ⌝ }
+pub fn touch(codes: &[u32], marks: &[u8], b: usize, e: usize, old: &[u32], touched: &mut [u8])
+    requires { ⌜ (e ≤ length (now codes)) × (length (now marks) ≡ length (now codes)) ⌝ }
+    requires { ⌜ ((q : ℕ) → asSelect (net (leadAt (now codes) (now old) q)) < length (now touched)) ⌝ }
+    ensures { λ _. ⌜ Keeps (now (touched .entry)) (now (touched .exit)) × Touched (now (codes .entry)) (now (marks .entry)) (now (old .entry)) (now (touched .exit)) b e ⌝ }
 {
     let mut q = b;
     while q < e {
-        touched[(lead_of(old, codes[q]) / 2) as usize] = 1;
+        touch_net(touched, lead_net(codes, old, q), marks[q]);
         q += 1;
     }
 }
@@ -99,14 +113,34 @@ fn first_touched(
     q
 }
 
-// Whether there are sides of ITEs from place b up to e.
-fn has_side(marks: &[u8], b: usize, e: usize) -> bool
-    requires { ⌜ e ≤ length (now marks) ⌝ }
-    ensures { λ r. ⌜ ((q : ℕ) → b ≤ q → q < e → 2 ≤ getD (now (marks .entry)) q 0 → r ≡ true) ⌝ }
+// Whether place q holds a select's literal, and its lead is touched as that of a select.
+fn is_select_touched(codes: &[u32], marks: &[u8], q: usize, old: &[u32], touched: &[u8]) -> bool
+    requires { ⌜ (q < length (now codes)) × (length (now marks) ≡ length (now codes)) ⌝ }
+    requires { ⌜ ((p : ℕ) → asSelect (net (leadAt (now codes) (now old) p)) < length (now touched)) ⌝ }
+    ensures { λ r. ⌜ (2 ≤ getD (now (marks .entry)) q 0 → HasMark (now (touched .entry)) (asSelect (net (leadAt (now (codes .entry)) (now (old .entry)) q))) → r ≡ true) ⌝ }
+{
+    if marks[q] < 2 {
+        return false;
+    }
+    touched[SELECTS + lead_net(codes, old, q)] != 0
+}
+
+// Whether there is such a place from b up to e.
+fn has_touched_select(
+    codes: &[u32],
+    marks: &[u8],
+    b: usize,
+    e: usize,
+    old: &[u32],
+    touched: &[u8],
+) -> bool
+    requires { ⌜ (e ≤ length (now codes)) × (length (now marks) ≡ length (now codes)) ⌝ }
+    requires { ⌜ ((p : ℕ) → asSelect (net (leadAt (now codes) (now old) p)) < length (now touched)) ⌝ }
+    ensures { λ r. ⌜ ((q : ℕ) → b ≤ q → q < e → 2 ≤ getD (now (marks .entry)) q 0 → HasMark (now (touched .entry)) (asSelect (net (leadAt (now (codes .entry)) (now (old .entry)) q))) → r ≡ true) ⌝ }
 {
     let mut q = b;
     while q < e {
-        if 2 <= marks[q] {
+        if is_select_touched(codes, marks, q, old, touched) {
             return true;
         }
         q += 1;
@@ -117,10 +151,10 @@ fn has_side(marks: &[u8], b: usize, e: usize) -> bool
 // Whether the clause from b up to its ending at e has to be taken, if one of its leads is touched.
 pub fn is_due(codes: &[u32], marks: &[u8], b: usize, e: usize, old: &[u32], touched: &[u8]) -> bool
     requires { ⌜ Starts (now codes) b × (e ≡ b + length (clauseAt (now codes) b)) × (e < length (now codes)) × (length (now marks) ≡ length (now codes)) ⌝ }
-    requires { ⌜ ((q : ℕ) → net (leadAt (now codes) (now old) q) < length (now touched)) ⌝ }
+    requires { ⌜ ((q : ℕ) → asSelect (net (leadAt (now codes) (now old) q)) < length (now touched)) ⌝ }
     ensures { λ r. ⌜ (Due (now (codes .entry)) (now (marks .entry)) (now (old .entry)) (now (touched .entry)) b → r ≡ true) ⌝ }
 {
-    if has_side(marks, b, e) {
+    if has_touched_select(codes, marks, b, e, old, touched) {
         return true;
     }
     let q = first_touched(codes, b, e, old, touched, 0);

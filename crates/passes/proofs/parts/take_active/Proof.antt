@@ -25,7 +25,7 @@ take-all-changed-requires c κs =
         (p .1 .1 .1 .0 .0, p .1 .1 .1 .0 .1),
         (
           (p .0 .1, omega (arith, c .before .before .before .before .before .before .clear2 .kept .0), omega (arith, c .before .before .before .before .before .before .clear2 .kept .0), omega (arith, c .before .before .before .before .before .before .clear2 .kept .0)),
-          (λ q. omega (arith, p .1 .1 .0 .1 .low (getD (a .codes .now) q 0), p .1 .1 .0 .0 q, c .before .before .before .before .before .before .before .before .before .before .clear .kept .0), (taken-none _ _ (length (a .seen .now)) _ _ _ (c .before .before .before .before .before .before .clear2 .ensures), none-touched (a .codes .now) (a .old .now) _ (c .before .before .before .before .before .before .before .before .before .before .clear .last .0) (length (a .seen .now)) (c .before .before .before .before .before .before .clear2 .ensures))),
+          (λ q. omega (arith, p .1 .1 .0 .1 .low (getD (a .codes .now) q 0), p .1 .1 .0 .0 q, c .before .before .before .before .before .before .before .before .before .before .clear .kept .0), (taken-none _ _ (length (a .seen .now)) _ _ _ (c .before .before .before .before .before .before .clear2 .ensures), none-touched (a .codes .now) (a .marks .now) (a .old .now) _ (c .before .before .before .before .before .before .before .before .before .before .clear .last .0) (length (a .seen .now)) (c .before .before .before .before .before .before .clear2 .ensures))),
         ),
       ),
     )

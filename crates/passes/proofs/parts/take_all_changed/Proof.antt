@@ -11,7 +11,7 @@ use Rattle.passes.proofs.parts.take_all_changed.Statement.{statement}
 use Rattle.passes.proofs.parts.take_all_changed.Tie as tie
 
 abbrev Inv-loop : tie.InvT-loop
-Inv-loop codes marks starts heads next older old touched₀ seen₀ part₀ tags₀ n₀ w₀ touched seen part tags n w = SeesMoved codes starts older old w seen × Taken codes marks seen part tags n × SeenTouched codes old seen touched × (length touched ≡ length touched₀) × (length seen ≡ length seen₀) × (length part ≡ length part₀) × (length tags ≡ length tags₀) × (w ≤ length old)
+Inv-loop codes marks starts heads next older old touched₀ seen₀ part₀ tags₀ n₀ w₀ touched seen part tags n w = SeesMoved codes starts older old w seen × Taken codes marks seen part tags n × SeenTouched codes marks old seen touched × (length touched ≡ length touched₀) × (length seen ≡ length seen₀) × (length part ≡ length part₀) × (length tags ≡ length tags₀) × (w ≤ length old)
 
 abbrev μ-loop : tie.MeasureT-loop
 μ-loop codes marks starts heads next older old touched₀ seen₀ part₀ tags₀ n₀ w₀ touched seen part tags n w = length old - w

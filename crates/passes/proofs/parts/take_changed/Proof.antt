@@ -15,7 +15,7 @@ returns : tie.Need-returns
 returns c = (c .before .before .before .before .before .before .before .before .before .pre .1 .1 .1 .0, (c .before .before .before .before .before .before .before .before .before .pre .1 .1 .1 .1, (λ w h. h, c .if1 .taken)))
 
 touch-requires : tie.Need-touch-requires
-touch-requires c κs = (omega arith, c .before .before .before .before .before .before .before .before .before .before .pre .1 .1 .0)
+touch-requires c κs = ((omega arith, c .before .before .before .before .before .before .before .before .before .before .pre .1 .0 .0), c .before .before .before .before .before .before .before .before .before .before .pre .1 .1 .0)
 
 take-clause-requires : tie.Need-take-clause-requires
 take-clause-requires c κs = (c .before .before .before .before .before .before .before .before .before .before .before .before .before .before .before .before .pre .0, (c .before .before .before .before .before .before .before .before .before .before .before .before .before .before .before .before .pre .1 .0, c .before .before .before .before .before .before .before .before .before .before .before .before .before .before .before .before .pre .1 .1 .1 .0))
@@ -38,8 +38,8 @@ returns-2 c =
     let p = c .before .before .before .before .before .before .before .before .before .before .before .before .before .before .before .before .before .before .before .before .before .before .before .pre in
     let x = c .before .before .before .before .before .before .before .before .before .before .before .before .touch in
     let y = c .before .before .before .before .before .before .take-clause in
-    let touched = x .last .1 .1 .1 .1 .0 in
-    (y .ensures .0, (touched-took (a .codes .now) (a .old .now) (a .seen .now) _ (a .touched .now) touched (a .b) (y .ensures .1) (p .1 .1 .1 .1) (x .ensures .0) (subst (Touched (a .codes .now) (a .old .now) touched (a .b)) (p .0 .1) (x .ensures .1)), (y .ensures .1 .keeps, y .ensures .1 .here)))
+    let touched = x .last .1 .1 .1 .1 .1 .0 in
+    (y .ensures .0, (touched-took (a .codes .now) (a .marks .now) (a .old .now) (a .seen .now) _ (a .touched .now) touched (a .b) (y .ensures .1) (p .1 .1 .1 .1) (x .ensures .0) (subst (Touched (a .codes .now) (a .marks .now) (a .old .now) touched (a .b)) (p .0 .1) (x .ensures .1)), (y .ensures .1 .keeps, y .ensures .1 .here)))
 
 pub take-changed-spec : {M : Type 1} → statement M
 take-changed-spec =

@@ -13,7 +13,7 @@ use Rattle.passes.proofs.parts.take_changed_chain.Statement.{statement}
 use Rattle.passes.proofs.parts.take_changed_chain.Tie as tie
 
 abbrev Inv-loop : tie.InvT-loop
-Inv-loop codes marks starts heads next w old touched₀ seen₀ part₀ tags₀ m n₀ k₀ touched seen part tags n k = Walk (netAt codes) (length codes) w (λ q. HasMark seen (getD starts q 0)) k × Keeps seen₀ seen × Taken codes marks seen part tags n × SeenTouched codes old seen touched × (length touched ≡ length touched₀) × (length seen ≡ length seen₀) × (length part ≡ length part₀) × (length tags ≡ length tags₀)
+Inv-loop codes marks starts heads next w old touched₀ seen₀ part₀ tags₀ m n₀ k₀ touched seen part tags n k = Walk (netAt codes) (length codes) w (λ q. HasMark seen (getD starts q 0)) k × Keeps seen₀ seen × Taken codes marks seen part tags n × SeenTouched codes marks old seen touched × (length touched ≡ length touched₀) × (length seen ≡ length seen₀) × (length part ≡ length part₀) × (length tags ≡ length tags₀)
 
 abbrev μ-loop : tie.MeasureT-loop
 μ-loop codes marks starts heads next w old touched₀ seen₀ part₀ tags₀ m n₀ k₀ touched seen part tags n k = k

@@ -1,40 +1,32 @@
 -- `passes::touched::touch` meets its contract.
 -- Assumes nothing.
 use mathlib.Core.Path.{_≡_, refl, _∙_}
-use Prim.Native.Nat.{_-_, _<_}
+use Prim.Native.Nat.{_-_}
 use native.Mathlib.Omega.{arith}
-use lib.ListN.{length, length-set}
-use Rattle.clauses.specs.Code.{net}
-use Rattle.passes.specs.Passing.{leadAt}
+use lib.ListN.{length}
 use Rattle.passes.specs.Taking.{Keeps, Touched}
-use Rattle.passes.proofs.Taking.{mark-keeps, touched-more}
+use Rattle.passes.proofs.Taking.{touched-more}
 use borrow.Author.Needs.{needs}
 use Rattle.passes.proofs.touched.touch.Statement.{statement}
 use Rattle.passes.proofs.touched.touch.Tie as tie
 
 abbrev Inv-loop : tie.InvT-loop
-Inv-loop codes b e old touched₀ q₀ touched q = Keeps touched₀ touched × Touched codes old touched b q × (length touched ≡ length touched₀)
+Inv-loop codes marks b e old touched₀ q₀ touched q = Keeps touched₀ touched × Touched codes marks old touched b q × (length touched ≡ length touched₀)
 
 abbrev μ-loop : tie.MeasureT-loop
-μ-loop codes b e old touched₀ q₀ touched q = e - q
+μ-loop codes marks b e old touched₀ q₀ touched q = e - q
 
 loop-holds : tie.Need-loop-holds Inv-loop μ-loop
 loop-holds c = (λ w h. h, λ q l h. absurd (omega arith), refl)
 
-mul-lead-of : tie.Need-mul-lead-of Inv-loop μ-loop
-mul-lead-of c = search needs
+lead-net-requires : tie.Need-lead-net-requires Inv-loop μ-loop
+lead-net-requires c κs = search needs
 
-shared-slice-read-lead-of : tie.Need-shared-slice-read-lead-of Inv-loop μ-loop
-shared-slice-read-lead-of c = search needs
+shared-slice-read-touch-net : tie.Need-shared-slice-read-touch-net Inv-loop μ-loop
+shared-slice-read-touch-net c = search needs
 
-lead-of-requires : tie.Need-lead-of-requires Inv-loop μ-loop
-lead-of-requires c κs = search needs
-
-cast-touched : tie.Need-cast-touched Inv-loop μ-loop
-cast-touched c = search needs
-
-slice-write-touched : tie.Need-slice-write-touched Inv-loop μ-loop
-slice-write-touched c = rw (c .lead-of .ensures) (omega (arith, c .before .before .before .before .before .before .before .pre .1 (c .before .before .before .loop .q)))
+touch-net-requires : tie.Need-touch-net-requires Inv-loop μ-loop
+touch-net-requires c κs = rw (c .before .lead-net .ensures) (omega (arith, c .before .before .before .before .before .before .before .before .before .pre .1 (c .before .before .before .before .loop .q)))
 
 add-q : tie.Need-add-q Inv-loop μ-loop
 add-q c = search needs
@@ -44,13 +36,10 @@ loop-less c = search needs
 
 loop-again : tie.Need-loop-again Inv-loop μ-loop
 loop-again c =
-    let a = c .before .before .before .before .before .before .before .args in
-    let inv = c .before .before .before .loop .inv in
-    let touched = c .before .before .before .loop .touched in
-    let q = c .before .before .before .loop .q in
-    let w = net (leadAt (a .codes .now) (a .old .now) q) in
-    let h : w < length touched = omega (arith, c .before .before .before .before .before .before .before .pre .1 q) in
-    rw (c .lead-of .ensures) (λ x m. mark-keeps touched w 1 (λ e. omega arith) x (inv .0 x m), touched-more (a .codes .now) (a .old .now) touched (a .b) q h (inv .1), length-set touched w 1 ∙ inv .2)
+    let a = c .before .before .before .before .before .before .before .before .before .before .before .before .args in
+    let l = c .before .before .before .before .before .before .before .loop in
+    let y = c .before .before .touch-net in
+    (λ x m. y .ensures .0 x (l .inv .0 x m), touched-more (a .codes .now) (a .marks .now) (a .old .now) (l .touched) (y .last .0) (a .b) (l .q) (y .ensures .0) (rw (c .before .before .before .before .lead-net .ensures) at (y .ensures .1)) (l .inv .1), y .kept .0 ∙ l .inv .2)
 
 same-length : tie.Need-same-length Inv-loop μ-loop
 same-length c = search needs
@@ -65,11 +54,9 @@ touch-spec =
     Inv-loop
     μ-loop
     loop-holds
-    mul-lead-of
-    shared-slice-read-lead-of
-    lead-of-requires
-    cast-touched
-    slice-write-touched
+    lead-net-requires
+    shared-slice-read-touch-net
+    touch-net-requires
     add-q
     loop-less
     loop-again
