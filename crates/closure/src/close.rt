@@ -70,7 +70,7 @@ fn close_codes(
     let mut heads = [0u32; 8192];
     let mut chain = [0u32; 65536];
     let mut sides = [0u32; 98304];
-    index_row(codes, &mut starts, &mut places, &mut links);
+    index_row(codes, marks, &mut starts, &mut places, &mut links);
     first_leads(leads);
     first_leads(next);
     run(

@@ -4,7 +4,7 @@ ghost use Rattle.clauses.specs.Clause.{clausesIn};
 ghost use Rattle.passes.specs.Making.{Making};
 ghost use Rattle.passes.specs.RowJoined.{RowJoined};
 ghost use Rattle.passes.specs.Scratch.{Scratch, PartRows};
-ghost use Rattle.passes.specs.Taking.{Indexed};
+ghost use Rattle.passes.specs.Indexing.{Indexed};
 ghost use Rattle.closure.specs.Rounds.{Starting};
 use passes::parts::take_active;
 use passes::row::by_rules;
@@ -33,7 +33,7 @@ pub fn round(
     groups: u32,
 ) -> Tally
     requires { ⌜ Starting (now codes) (now marks) (now older) (now old) (now new) rounds groups ⌝ }
-    requires { ⌜ Indexed (now codes) (now starts) (now places) (now links) ⌝ }
+    requires { ⌜ Indexed (now codes) (now marks) (now starts) (now places) (now links) ⌝ }
     requires { ⌜ PartRows (now touched) (now seen) (now part) (now tags) ⌝ }
     requires { ⌜ Scratch (now keys) (now values) (now heads) (now chain) (now sides) ⌝ }
     ensures making { λ r. ⌜ Making (clausesIn (now (codes .entry))) (now (old .entry)) (now (new .exit)) r ⌝ }

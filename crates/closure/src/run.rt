@@ -12,7 +12,7 @@ ghost use Rattle.gates.specs.Found.{Found};
 ghost use Rattle.rules.specs.Answer.{own};
 ghost use Rattle.rules.specs.Compute.{ended, closed};
 ghost use Rattle.passes.specs.Scratch.{Scratch, PartRows};
-ghost use Rattle.passes.specs.Taking.{Indexed};
+ghost use Rattle.passes.specs.Indexing.{Indexed};
 ghost use Rattle.closure.specs.Rounds.{isStill, Followed};
 use crate::round::round;
 use gates::fill::fill;
@@ -120,7 +120,7 @@ pub fn run(
     requires { ⌜ Fits (length (now leads)) (clausesIn (now codes)) ⌝ }
     requires { ⌜ (length (now leads) ≤ maxNets) × (length (now codes) ≤ maxEntries) ⌝ }
     requires { ⌜ (now leads ≡ netsOf (length (now leads))) × (now next ≡ now leads) × (length (now older) ≡ length (now leads)) ⌝ }
-    requires { ⌜ Indexed (now codes) (now starts) (now places) (now links) ⌝ }
+    requires { ⌜ Indexed (now codes) (now marks) (now starts) (now places) (now links) ⌝ }
     requires { ⌜ PartRows (now touched) (now seen) (now part) (now tags) ⌝ }
     requires { ⌜ Scratch (now keys) (now values) (now heads) (now chain) (now sides) ⌝ }
     ensures { λ r. ⌜ ended (r .verdict) (r .rounds) (now (leads .exit)) ≡ closed (length (now (leads .entry))) (clausesIn (now (codes .entry))) limit ⌝ }

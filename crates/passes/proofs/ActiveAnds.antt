@@ -19,13 +19,13 @@ use Rattle.rules.specs.Answer.{leadOf}
 use Rattle.passes.specs.Making.{Kernel, JoinedBy}
 use Rattle.passes.specs.Passing.{AndJoined}
 use Rattle.passes.specs.Matching.{AndAt, HasLead, Takes, Alike}
-use Rattle.passes.specs.Parts.{Changed, Shares, SharesTwo}
+use Rattle.passes.specs.Parts.{Changed, Shares, SharesTwo, TiedAt}
 use Rattle.passes.specs.declared.tally.Tally.{Tally}
 use Rattle.passes.proofs.Searches.{lead-false, lead-true, lead-negate}
 use Rattle.passes.proofs.JoinedBy.{joined-old, joined-back, joined-chain, joined-same}
 use Rattle.passes.proofs.PartMarks.{across, copy-literal, across-code, across-mark}
 use Rattle.passes.proofs.PartPlaces.{and-copied, and-at-copied, alike-copied}
-use Rattle.passes.proofs.UnchangedClauses.{all-or-some, Unchanged, unchanged-or-changed, joined-before, and-unchanged, alike-before}
+use Rattle.passes.proofs.UnchangedClauses.{all-or-some, Unchanged, unchanged-or-changed, InputsUnchanged, inputs-unchanged-or-changed, joined-before, and-unchanged, alike-before}
 use Rattle.passes.proofs.PartRounds.{PartRound, Both, Pair, unchanged, copied, apart, changed-copied, pair-of}
 
 module _ {cs : List (List ℕ)} {row marks part partMarks older old new : List ℕ} {t : Tally} (r : PartRound cs row marks part partMarks older old new t) where
@@ -150,16 +150,20 @@ module _ {cs : List (List ℕ)} {row marks part partMarks older old new : List �
 
   -- Rule 4
 
+  -- an input is tied
+  input-tied : {p x : ℕ} → AndAt row marks p → (h : HasLead row old p x) → TiedAt row marks (startOf row p) (h .place)
+  input-tied {p} a h = record { at = h .at; by = inl (record { output = p; output-at = a .placed .at; mark = a .mark; apart = λ e. h .apart (sym e) }) }
+
   module _ (p q : ℕ) (a : AndAt row marks p) (d : AndAt row marks q) (alike : Alike row old p q) where
     -- two leads that both take are of one net
-    module _ (few : ¬ SharesTwo row old (startOf row p) (startOf row q)) where
-      abbrev share : (x : ℕ) → HasLead row old p x → HasLead row old q x → net x ≢ 0 → Shares row old (startOf row p) (startOf row q)
+    module _ (few : ¬ SharesTwo (TiedAt row marks) row old (startOf row p) (startOf row q)) where
+      abbrev share : (x : ℕ) → HasLead row old p x → HasLead row old q x → net x ≢ 0 → Shares (TiedAt row marks) row old (startOf row p) (startOf row q)
       share x h k m =
           record {
             place = h .place;
-            at = h .at;
+            at = input-tied a h;
             other = k .place;
-            other-at = k .at;
+            other-at = input-tied d k;
             same = ap net (h .lead ∙ sym (k .lead));
             variable = λ z. m (ap net (sym (h .lead)) ∙ z);
           }
@@ -199,9 +203,12 @@ module _ {cs : List (List ℕ)} {row marks part partMarks older old new : List �
         (alike-copied (c .left) (a .placed .at) (c .right) (d .placed .at) alike))
 
     pub and-pairs-joined : JoinedBy new t (getD row p 0) (getD row q 0)
-    and-pairs-joined = go (pair-of r (startOf row p) (startOf row q) (a .placed .at .start) (d .placed .at .start))
+    and-pairs-joined =
+        go (pair-of r (startOf row p) (startOf row q) (a .placed .at .start) (d .placed .at .start) (inputs-unchanged-or-changed older old (r .marked) p a)
+        (inputs-unchanged-or-changed older old (r .marked) q d))
       where
-        go : Pair row marks part partMarks older old (startOf row p) (startOf row q) → JoinedBy new t (getD row p 0) (getD row q 0)
-        go (unchanged c e) = joined-before (r .making) _ _ (r .before .and-pairs p q a d (alike-before c (a .placed .at) e (d .placed .at) alike))
+        go : Pair row marks part partMarks old (InputsUnchanged row older old p) (InputsUnchanged row older old q) (startOf row p) (startOf row q)
+            → JoinedBy new t (getD row p 0) (getD row q 0)
+        go (unchanged c e) = joined-before (r .making) _ _ (r .before .and-pairs p q a d (alike-before c e alike))
         go (copied c) = copies-joined c
         go (apart n) = outcomes-joined n

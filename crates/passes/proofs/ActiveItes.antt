@@ -12,7 +12,7 @@ use Rattle.rules.specs.Answer.{leadOf}
 use Rattle.passes.specs.Making.{Kernel, JoinedBy}
 use Rattle.passes.specs.Passing.{leadAt}
 use Rattle.passes.specs.RowJoined.{SideAt, IteAt, ItesJoined}
-use Rattle.passes.specs.Parts.{Changed, SelectAt, SharesSelect, select}
+use Rattle.passes.specs.Parts.{Changed, Shares, SelectAt, select}
 use Rattle.passes.specs.declared.tally.Tally.{Tally}
 use Rattle.passes.proofs.Searches.{lead-true, lead-negate}
 use Rattle.passes.proofs.JoinedBy.{joined-old, joined-back, joined-chain}
@@ -90,9 +90,9 @@ module _ {cs : List (List ℕ)} {row marks part partMarks older old new : List �
         lead : net (leadAt row old (s .place)) ≡ w
         lead = select-lead old s ∙ e
 
-        shared : SharesSelect row marks old (s .start) (h .clause)
+        shared : Shares (SelectAt row marks) row old (s .start) (h .clause)
         shared =
-            record { place = s .place; select = select-at s; other = h .place; other-select = h .at; same = lead ∙ sym (h .lead); variable = λ z. some (sym lead ∙ z) }
+            record { place = s .place; at = select-at s; other = h .place; other-at = h .at; same = lead ∙ sym (h .lead); variable = λ z. some (sym lead ∙ z) }
 
     ite-in-part : {l c u e : ℕ} → net (leadOf old c) ≡ w → IteAt row marks l c u e → IteAt part partMarks l c u e
     ite-in-part {c = c} q i = record { then-side = side-in-part q (i .then-side); else-side = side-in-part (inverse-lead old c ∙ q) (i .else-side); apart = i .apart }

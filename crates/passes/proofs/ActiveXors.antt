@@ -1,7 +1,7 @@
 -- A round over a part of the row joins what rules 5 and 6 draw from all of it.
 -- Assumes nothing.
 use mathlib.Core.Path.{_≡_, refl, sym, _∙_, ap, subst, subst⁻¹}
-use mathlib.Core.Logic.{_≢_, _⊎_, inl, inr, ⊎-elim}
+use mathlib.Core.Logic.{_≢_, _⊎_, inl, inr, ⊎-elim, ⊎-map}
 use mathlib.Core.List.{List}
 use Prim.Native.Nat.{ℕ, _*_, _<_}
 use native.Mathlib.Omega.{arith}
@@ -15,7 +15,7 @@ use Rattle.passes.specs.Making.{JoinedBy}
 use Rattle.passes.specs.Passing.{leadAt}
 use Rattle.passes.specs.Xors.{oddNets, packed, Digits, XorAt, restAt, keyAt, sumAt}
 use Rattle.passes.specs.RowJoined.{XorsJoined}
-use Rattle.passes.specs.Parts.{Changed, Shares, SharesTwo}
+use Rattle.passes.specs.Parts.{ChangedIn, Changed, Shares, SharesTwo, TiedAt}
 use Rattle.passes.specs.declared.tally.Tally.{Tally}
 use Rattle.passes.proofs.OddNets.{TwoNets, odd-two, odd-digits, odd-leads, packed-unique}
 use Rattle.passes.proofs.JoinedBy.{joined-back, joined-chain, joined-same}
@@ -41,6 +41,11 @@ module _ {cs : List (List ℕ)} {row marks part partMarks older old new : List �
 
   -- Rule 6
 
+  tied-or-unchanged : {b p : ℕ} → XorAt row marks b p → Unchanged row older old b ⊎ ChangedIn (TiedAt row marks) row older old b
+  tied-or-unchanged {b} x =
+      ⊎-map (λ h. h) (λ s. record { place = s .place; at = record { at = s .at; by = inr (x .marked) }; moved = s .moved })
+      (unchanged-or-changed row older old b (x .place .start))
+
   digits : (b p : ℕ) → Starts row b → Digits (oddNets (leadOf old) (restAt row b p))
   digits b p s = odd-digits (leadOf old) (restAt row b p) (λ x m. omega (arith, r .leads .low x, net-in r s x (rest-in row b p x m), r .nets))
 
@@ -53,20 +58,20 @@ module _ {cs : List (List ℕ)} {row marks part partMarks older old new : List �
     equal = packed-unique (nets b p) (nets d q) (digits b p (x .place .start)) (digits d q (y .place .start)) same
 
     -- a net that is left of both leads a literal in each clause
-    shared : (w : ℕ) → Mem w (nets b p) → w ≢ 0 → (h : Shares row old b d) × (net (leadAt row old (h .place)) ≡ w)
+    shared : (w : ℕ) → Mem w (nets b p) → w ≢ 0 → (h : Shares (TiedAt row marks) row old b d) × (net (leadAt row old (h .place)) ≡ w)
     shared w m k = with-leads (odd-leads (leadOf old) (restAt row b p) w m) (odd-leads (leadOf old) (restAt row d q) w (subst (Mem w) equal m))
       where
         with-leads : (i : ℕ) × Mem i (restAt row b p) × (net (leadOf old i) ≡ w) → (j : ℕ) × Mem j (restAt row d q) × (net (leadOf old j) ≡ w)
-            → (h : Shares row old b d) × (net (leadAt row old (h .place)) ≡ w)
+            → (h : Shares (TiedAt row marks) row old b d) × (net (leadAt row old (h .place)) ≡ w)
         with-leads (i, u, e) (j, v, f) =
             let o = literal-of row b (x .place .start) i (rest-in row b p i u) in
             let a = literal-of row d (y .place .start) j (rest-in row d q j v) in
             let g : net (leadOf old (getD row (o .place) 0)) ≡ w = ap (λ (z : ℕ). net (leadOf old z)) (o .is) ∙ e in (
               record {
                 place = o .place;
-                at = o .at;
+                at = record { at = o .at; by = inr (x .marked) };
                 other = a .place;
-                other-at = a .at;
+                other-at = record { at = a .at; by = inr (y .marked) };
                 same = g ∙ sym (ap (λ (z : ℕ). net (leadOf old z)) (a .is) ∙ f);
                 variable = λ z. k (sym g ∙ z);
               },
@@ -74,11 +79,11 @@ module _ {cs : List (List ℕ)} {row marks part partMarks older old new : List �
             )
 
     -- at most one net is left of either, or two are shared
-    few-or-shared : (keyAt old row b p < 65536) ⊎ SharesTwo row old b d
+    few-or-shared : (keyAt old row b p < 65536) ⊎ SharesTwo (TiedAt row marks) row old b d
     unfolding keyAt
     few-or-shared = go (odd-two (leadOf old) (restAt row b p) (digits b p (x .place .start)))
       where
-        go : (packed (nets b p) < 65536) ⊎ TwoNets (nets b p) → (packed (nets b p) < 65536) ⊎ SharesTwo row old b d
+        go : (packed (nets b p) < 65536) ⊎ TwoNets (nets b p) → (packed (nets b p) < 65536) ⊎ SharesTwo (TiedAt row marks) row old b d
         go (inl h) = inl h
         go (inr t) =
             let h = shared (t .one) (t .one-in) (t .one-some) in
@@ -91,9 +96,9 @@ module _ {cs : List (List ℕ)} {row marks part partMarks older old new : List �
         (joined-back (r .making) _ _ (joined-same (r .making) refl (ap (λ (k : ℕ). 2 * k) (sym same)) (alone d q y (subst (λ (k : ℕ). k < 65536) same h))))
 
     sums : JoinedBy new t (sumAt old row b p) (sumAt old row d q)
-    sums = go (pair-of r b d (x .place .start) (y .place .start))
+    sums = go (pair-of r b d (x .place .start) (y .place .start) (tied-or-unchanged x) (tied-or-unchanged y))
       where
-        go : Pair row marks part partMarks older old b d → JoinedBy new t (sumAt old row b p) (sumAt old row d q)
+        go : Pair row marks part partMarks old (Unchanged row older old b) (Unchanged row older old d) b d → JoinedBy new t (sumAt old row b p) (sumAt old row d q)
         go (unchanged c e) =
             joined-same (r .making) (sum-before c p) (sum-before e q)
             (joined-before (r .making) _ _ (r .before .xors .sums b p d q x y (key-before c p ∙ same ∙ sym (key-before e q))))

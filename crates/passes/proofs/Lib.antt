@@ -35,6 +35,7 @@ pub mod ActiveXors
 pub mod ActiveItes
 pub mod ActiveParts
 pub mod MarkCounts
+pub mod Indexing
 pub mod Taking
 pub mod Appending
 pub mod RowRules

@@ -16,7 +16,7 @@ use Rattle.passes.specs.Passing.{ClauseJoined}
 use Rattle.passes.specs.Xors.{LeadRow}
 use Rattle.passes.specs.Marked.{Marked}
 use Rattle.passes.specs.RowJoined.{RowJoined}
-use Rattle.passes.specs.Parts.{Ended, Copy, Changed, Shares, SharesTwo, Active, changed, two, HoldsActive}
+use Rattle.passes.specs.Parts.{Ended, Copy, ChangedIn, Changed, Shares, SharesTwo, TiedAt, Active, changed, tied, HoldsActive}
 use Rattle.passes.specs.declared.tally.Tally.{Tally}
 use Rattle.passes.proofs.PartPlaces.{clause-copied}
 use Rattle.passes.proofs.UnchangedClauses.{Unchanged, unchanged-or-changed, clause-unchanged}
@@ -40,11 +40,18 @@ pub record Both (row marks part partMarks : List ℕ) (b d : ℕ) : Type 0 where
   pub left : Copy row marks b part partMarks b′
   pub right : Copy row marks d part partMarks d′
 
--- how the clauses at b and d stand in the round
-pub data Pair (row marks part partMarks older old : List ℕ) (b d : ℕ) : Type 0 where
-  unchanged : Unchanged row older old b → Unchanged row older old d → Pair row marks part partMarks older old b d
-  copied : Both row marks part partMarks b d → Pair row marks part partMarks older old b d
-  apart : ¬ SharesTwo row old b d → Pair row marks part partMarks older old b d
+-- how the clauses at b and d stand in the round: what counts of either is unchanged, or both are copied, or they share too few leads
+pub data Pair (row marks part partMarks old : List ℕ) (Left Right : Type 0) (b d : ℕ) : Type 0 where
+  unchanged : Left → Right → Pair row marks part partMarks old Left Right b d
+  copied : Both row marks part partMarks b d → Pair row marks part partMarks old Left Right b d
+  apart : ¬ SharesTwo (TiedAt row marks) row old b d → Pair row marks part partMarks old Left Right b d
+
+-- clauses share leads with each other
+abbrev shares-back : {In : ℕ → ℕ → Type 0} {row old : List ℕ} {b d : ℕ} → Shares In row old b d → Shares In row old d b
+shares-back h = record { place = h .other; at = h .other-at; other = h .place; other-at = h .at; same = sym (h .same); variable = λ z. h .variable (h .same ∙ z) }
+
+two-back : {In : ℕ → ℕ → Type 0} {row old : List ℕ} {b d : ℕ} → SharesTwo In row old b d → SharesTwo In row old d b
+two-back h = record { first = shares-back (h .first); second = shares-back (h .second); apart = λ e. h .apart (h .first .same ∙ e ∙ sym (h .second .same)) }
 
 module _ {cs : List (List ℕ)} {row marks part partMarks older old new : List ℕ} {t : Tally} (r : PartRound cs row marks part partMarks older old new t) where
   pub net-in : {b : ℕ} → Starts row b → (x : ℕ) → Mem x (clauseAt row b) → (1 ≤ net x) × (net x ≤ length old)
@@ -60,28 +67,26 @@ module _ {cs : List (List ℕ)} {row marks part partMarks older old new : List �
   pub changed-copied : {b : ℕ} → Changed row older old b → (b′ : ℕ) × Copy row marks b part partMarks b′
   changed-copied {b} s = active-copied b (s .at .start) (changed s)
 
-  -- two clauses
-  pub pair-of : (b d : ℕ) → Starts row b → Starts row d → Pair row marks part partMarks older old b d
-  pair-of b d s u = go (unchanged-or-changed row older old b s) (unchanged-or-changed row older old d u) (r .holds b s) (r .holds d u)
+  -- two clauses, of each of which what counts is unchanged or the lead of a tied place has changed
+  pub pair-of : {Left Right : Type 0} (b d : ℕ) → Starts row b → Starts row d → Left ⊎ ChangedIn (TiedAt row marks) row older old b
+      → Right ⊎ ChangedIn (TiedAt row marks) row older old d → Pair row marks part partMarks old Left Right b d
+  pair-of {Left} {Right} b d s u left right = go left right (r .holds b s) (r .holds d u)
     where
-      both : (b′ : ℕ) × Copy row marks b part partMarks b′ → (d′ : ℕ) × Copy row marks d part partMarks d′ → Pair row marks part partMarks older old b d
+      both : (b′ : ℕ) × Copy row marks b part partMarks b′ → (d′ : ℕ) × Copy row marks d part partMarks d′ → Pair row marks part partMarks old Left Right b d
       both (b′, c) (d′, e) = copied (record { b′ = b′; d′ = d′; left = c; right = e })
 
-      turned : Shares row old b d → Shares row old d b
-      turned h = record { place = h .other; at = h .other-at; other = h .place; other-at = h .at; same = sym (h .same); variable = λ z. h .variable (h .same ∙ z) }
+      tied-copied : {a : ℕ} → ChangedIn (TiedAt row marks) row older old a → (a′ : ℕ) × Copy row marks a part partMarks a′
+      tied-copied c = changed-copied (record { place = c .place; at = c .at .at; moved = c .moved })
 
-      back : SharesTwo row old b d → SharesTwo row old d b
-      back h = record { first = turned (h .first); second = turned (h .second); apart = λ e. h .apart (h .first .same ∙ e ∙ sym (h .second .same)) }
-
-      go : Unchanged row older old b ⊎ Changed row older old b → Unchanged row older old d ⊎ Changed row older old d
+      go : Left ⊎ ChangedIn (TiedAt row marks) row older old b → Right ⊎ ChangedIn (TiedAt row marks) row older old d
           → ((b′ : ℕ) × Copy row marks b part partMarks b′) ⊎ (¬ Active row marks older old b)
           → ((d′ : ℕ) × Copy row marks d part partMarks d′) ⊎ (¬ Active row marks older old d)
-          → Pair row marks part partMarks older old b d
+          → Pair row marks part partMarks old Left Right b d
       go (inl c) (inl e) h i = unchanged c e
-      go (inr c) e h (inl k) = both (changed-copied c) k
-      go (inr c) e h (inr n) = apart (λ k. n (two b c (back k)))
-      go (inl c) (inr e) (inl k) i = both k (changed-copied e)
-      go (inl c) (inr e) (inr n) i = apart (λ k. n (two d e k))
+      go (inr c) e h (inl k) = both (tied-copied c) k
+      go (inr c) e h (inr n) = apart (λ k. n (tied b c (two-back k)))
+      go (inl c) (inr e) (inl k) i = both k (tied-copied e)
+      go (inl c) (inr e) (inr n) i = apart (λ k. n (tied d e k))
 
   -- Rules 1 and 2
   pub clauses-joined : (b : ℕ) → Starts row b → ClauseJoined row marks old new t b

@@ -6,7 +6,7 @@ use mathlib.Core.Bool.{Bool, true, false, not, true≢false}
 use mathlib.Core.List.{List, _∷_}
 use Prim.Native.Nat.{ℕ, _+_, _*_, _≤_, _<_}
 use native.Mathlib.Omega.{arith}
-use native.Mathlib.Decide.{ℕ-discrete}
+use native.Mathlib.Decide.{decLt, ℕ-discrete}
 use lib.Dec.{eqb}
 use lib.ListN.{length, getD}
 use borrow.Author.Tests.{eq-eqb, ne-eqb, eqb-true}
@@ -110,6 +110,13 @@ module _ {P : ℕ → Type 0} {from : ℕ} where
       go : (p : ℕ) → from ≤ p → p < q + 1 → Dec (p ≡ q) → P p
       go p l s (yes d) = subst⁻¹ P d e
       go p l s (no n) = k .each p l (omega arith)
+
+  pub upto-over : {q r : ℕ} → Upto P from q → q ≤ r → ((p : ℕ) → q ≤ p → p < r → P p) → Upto P from r
+  upto-over {q} {r} k h block = record { low = omega (arith, k .low); each = λ p l s. go p l s (decLt p q) }
+    where
+      go : (p : ℕ) → from ≤ p → p < r → Dec (p < q) → P p
+      go p l s (yes d) = k .each p l d
+      go p l s (no n) = block p (omega arith) s
 
 -- no place from `from` up to q passes
 abbrev pub Passed : (ℕ → Bool) → ℕ → ℕ → ℕ → Type 0

@@ -4,29 +4,28 @@ use mathlib.Core.Path.{_≡_, refl, sym, _∙_, ap, subst, subst⁻¹}
 use mathlib.Core.Logic.{_≢_, _⊎_, inl, inr}
 use mathlib.Core.Bool.{Bool, true, false, not, true≢false}
 use mathlib.Core.List.{List}
-use Prim.Native.Nat.{ℕ, _+_, _-_, _*_, _/_, _%_, _≤_, _<_}
+use Prim.Native.Nat.{ℕ, _+_, _-_, _*_, _%_, _≤_, _<_}
 use native.Mathlib.Omega.{arith}
 use native.Mathlib.Decide.{decLt, ℕ-discrete}
 use lib.Dec.{eqb}
-use lib.ListN.{length, getD, set, replicate, length-set, List·getD-eq-default}
+use lib.ListN.{length, getD, set, length-set, List·getD-eq-default}
 use lib.Seq.{getD-set-same, getD-set-other}
-use borrow.Author.Tests.{eq-eqb, ne-eqb, eqb-true}
+use borrow.Author.Tests.{eq-eqb, ne-eqb}
 use Rattle.clauses.specs.Code.{net}
-use Rattle.clauses.specs.Limit.{maxEntries}
 use Rattle.clauses.proofs.Lists.{and-both, not-eqb}
 use Rattle.gates.specs.Sign.{flip, isInverse}
-use Rattle.gates.specs.Found.{clauseAt, Starts, LiteralAt, isSelectNext, isSelectAfter}
-use Rattle.gates.proofs.Rows.{starts-next, starts-apart}
-use Rattle.gates.proofs.Walking.{Walk, walk-literal, walk-clause, literal-inside}
+use Rattle.gates.specs.Found.{clauseAt, LiteralAt}
+use Rattle.gates.proofs.Walking.{literal-inside}
 use Rattle.gates.proofs.Signs.{net-flip}
 use Rattle.rules.specs.Answer.{leadOf}
 use Rattle.passes.specs.Passing.{leadAt, First}
 use Rattle.passes.specs.Xors.{LeadRow}
-use Rattle.passes.specs.Parts.{Moved, Changed, Shares, Active, changed, select, two}
-use Rattle.passes.specs.Taking.{netAt, Indexed, HasMark, Keeps, hasMoved, isTouched, asSelect, TouchedBy, Touched, SeenTouched, SeesMoved, TwoTouched, SelectTouched, SeesTouched, Sees, Took}
+use Rattle.passes.specs.Parts.{Moved, ChangedIn, Changed, Shares, TiedAt, SelectAt, Active, changed, select, tied}
+use Rattle.passes.specs.Indexing.{netAt, startAt, tieAt, Listed}
+use Rattle.passes.specs.Taking.{HasMark, Keeps, hasMoved, isTouched, asSelect, TouchedBy, Touched, isTied, SeesPlace, SeesMoved, OtherTouched, Due, by-select, by-tie, SeesTouched, Sees}
 use Rattle.passes.proofs.Joining.{lead-constant, lead-inside}
-use Rattle.passes.proofs.Maps.{zeros}
 use Rattle.passes.proofs.MarkCounts.{count-more}
+use Rattle.passes.proofs.Indexing.{listed-start, listed-tie, listed-select}
 
 -- A row of marks that is written
 
@@ -45,35 +44,33 @@ module _ (marked : List ℕ) (w v : ℕ) where
       go (yes e) (no l) = absurd (h (rw e (List·getD-eq-default marked 0 (omega arith))))
       go (no d) l = mark-other x d h
 
--- one more place of which P holds
-pub places-more : (P : ℕ → Type 0) (b q : ℕ) → ((k : ℕ) → b ≤ k → k < q → P k) → P q → (k : ℕ) → b ≤ k → k < q + 1 → P k
-places-more P b q before here k l h = go (ℕ-discrete k q)
-  where
-    go : Dec (k ≡ q) → P k
-    go (yes e) = subst⁻¹ P e here
-    go (no n) = before k l (omega arith)
-
 -- what is touched stays so
-touched-keeps : (mark n : ℕ) (touched touched′ : List ℕ) → Keeps touched touched′ → TouchedBy mark touched n → TouchedBy mark touched′ n
-touched-keeps mark n touched touched′ keeps t = (keeps n (t .0), λ h. keeps (asSelect n) (t .1 h))
+pub touched-keeps : {counts : Bool} {tie n : ℕ} {touched touched′ : List ℕ} → Keeps touched touched′ → TouchedBy counts tie touched n → TouchedBy counts tie touched′ n
+touched-keeps keeps t = record { tied = λ c h. keeps _ (t .tied c h); select = λ h. (keeps _ (t .select h .0), keeps _ (t .select h .1)) }
 
--- net n is touched, by one mark or by two
-module _ (touched : List ℕ) (n mark : ℕ) (room : asSelect n < length touched) where
-  pub touched-plain : mark < 2 → Keeps touched (set touched n 1) × TouchedBy mark (set touched n 1) n
-  touched-plain h = (mark-keeps touched n 1 (λ e. omega arith), (mark-here touched n 1 (omega arith) (λ e. omega arith), λ k. absurd (omega arith)))
+pub place-keeps : {codes starts old seen seen′ touched touched′ : List ℕ} {q : ℕ} → Keeps seen seen′ → Keeps touched touched′ → SeesPlace codes starts old seen touched q
+    → SeesPlace codes starts old seen′ touched′ q
+place-keeps sees keeps s = record { seen-it = sees _ (s .seen-it); touches = λ k l h. touched-keeps keeps (s .touches k l h) }
 
-  pub touched-select : Keeps touched (set (set touched n 1) (asSelect n) 1) × TouchedBy mark (set (set touched n 1) (asSelect n) 1) n
+-- the clause of a place whose lead has changed is seen, and its leads are touched
+pub place-seen : (codes starts old seen touched : List ℕ) (q e : ℕ) → e ≡ startAt starts q + length (clauseAt codes (startAt starts q)) → HasMark seen (startAt starts q)
+    → Touched codes starts old (eqb (getD starts q 0 % 2) 1) touched (startAt starts q) e → SeesPlace codes starts old seen touched q
+unfolding isTied
+place-seen codes starts old seen touched q e end sees t = record { seen-it = sees; touches = λ k l h. t k l (omega (arith, end)) }
+
+-- net n is touched, and as a select
+module _ (touched : List ℕ) (n : ℕ) (room : asSelect n < length touched) where
+  pub touched-plain : Keeps touched (set touched n 1) × HasMark (set touched n 1) n
+  touched-plain = (mark-keeps touched n 1 (λ e. omega arith), mark-here touched n 1 (omega arith) (λ e. omega arith))
+
+  pub touched-select : (Keeps touched (set (set touched n 1) (asSelect n) 1) × HasMark (set (set touched n 1) (asSelect n) 1) n)
+      × HasMark (set (set touched n 1) (asSelect n) 1) (asSelect n)
   touched-select =
       let first = set touched n 1 in
       let keeps = mark-keeps first (asSelect n) 1 (λ e. omega arith) in (
-        λ x h. keeps x (mark-keeps touched n 1 (λ e. omega arith) x h),
-        (keeps n (mark-here touched n 1 (omega arith) (λ e. omega arith)), λ k. mark-here first (asSelect n) 1 (omega (arith, length-set touched n 1)) (λ e. omega arith)),
+        (λ x h. keeps x (touched-plain .0 x h), keeps n (touched-plain .1)),
+        mark-here first (asSelect n) 1 (omega (arith, length-set touched n 1)) (λ e. omega arith),
       )
-
-pub touched-more : (codes marks old touched touched′ : List ℕ) (b q : ℕ) → Keeps touched touched′ → TouchedBy (getD marks q 0) touched′ (net (leadAt codes old q)) → Touched codes marks old touched b q
-    → Touched codes marks old touched′ b (q + 1)
-touched-more codes marks old touched touched′ b q keeps here t =
-    places-more (λ k. TouchedBy (getD marks k 0) touched′ (net (leadAt codes old k))) b q (λ k l s. touched-keeps (getD marks k 0) (net (leadAt codes old k)) touched touched′ keeps (t k l s)) here
 
 -- What is seen
 
@@ -101,43 +98,6 @@ sees-more seen b k seen′ s h z =
     wider p (inl l) = inl l
     wider p (inr l) = inr (omega arith)
 
--- a place is in one clause
-one-clause : (row : List ℕ) (a b p : ℕ) → LiteralAt row a p → LiteralAt row b p → a ≡ b
-one-clause row a b p x y =
-    walk-clause row b p (record { start = λ h. y .start; inside = omega (arith, y .start .inside); low = y .low; high = omega (arith, y .high) }) (literal-inside row b p y) a x
-
-module _ (codes starts heads next : List ℕ) (index : Indexed codes starts heads next) where
-  -- the clause of a place whose net is no constant
-  pub start-of : (q : ℕ) → netAt codes q ≢ 0 → LiteralAt codes (getD starts q 0) q
-  start-of q n = index .start q (λ e. n (ap net e))
-
-  pub start-inside : (q : ℕ) → netAt codes q ≢ 0 → getD starts q 0 < length codes
-  start-inside q n = start-of q n .start .inside
-
--- one more place
-pub starts-more : (codes starts : List ℕ) (b p : ℕ) → Walk codes b p → p < length codes → p < length starts → ((q : ℕ) → q < p → getD codes q 0 ≢ 0 → LiteralAt codes (getD starts q 0) q)
-    → (q : ℕ) → q < p + 1 → getD codes q 0 ≢ 0 → LiteralAt codes (getD (set starts p b) q 0) q
-starts-more codes starts b p w h r below q l n = go (ℕ-discrete q p)
-  where
-    go : Dec (q ≡ p) → LiteralAt codes (getD (set starts p b) q 0) q
-    go (yes e) = rw (e, getD-set-same starts p b 0 r) (walk-literal codes b p w h (λ z. n (rw e z)))
-    go (no m) = rw (getD-set-other starts p q b 0 m) (below q (omega arith) n)
-
--- the clause behind the one at b, which ends at e
-pub starts-behind : (codes : List ℕ) (b e : ℕ) → e ≡ b + length (clauseAt codes b) → e + 1 < length codes → Starts codes (e + 1)
-starts-behind codes b e h l = rw h (starts-next codes b (omega arith))
-
--- one more ending
-pub ends-more : (codes starts : List ℕ) (b e : ℕ) → e ≡ b + length (clauseAt codes b) → maxEntries + b < length starts
-    → ((d : ℕ) → Starts codes d → d < b → getD starts (maxEntries + d) 0 ≡ d + length (clauseAt codes d))
-    → (d : ℕ) → Starts codes d → d < e + 1 → getD (set starts (maxEntries + b) e) (maxEntries + d) 0 ≡ d + length (clauseAt codes d)
-ends-more codes starts b e h r below d s l = go (ℕ-discrete d b) (decLt b d)
-  where
-    go : Dec (d ≡ b) → Dec (b < d) → getD (set starts (maxEntries + b) e) (maxEntries + d) 0 ≡ d + length (clauseAt codes d)
-    go (yes k) m = rw (k, getD-set-same starts (maxEntries + b) e 0 r) h
-    go (no n) (yes m) = absurd (omega (arith, starts-apart codes b d s m))
-    go (no n) (no m) = getD-set-other starts (maxEntries + b) (maxEntries + d) e 0 (λ z. n (omega arith)) ∙ below d s (omega arith)
-
 -- one more net of the chain's rows: P holds of the nets that pass the test
 pub nets-more : (f : ℕ → Bool) (P Q : ℕ → Type 0) (w r v : ℕ) → ((x : ℕ) → P x → Q x) → ((x : ℕ) → x < w → f x ≡ true → P x) → Q w → First f (w + 1) v r
     → (x : ℕ) → x < r → f x ≡ true → Q x
@@ -151,19 +111,6 @@ nets-more f P Q w r v on below here first x l t = go (ℕ-discrete x w) (decLt x
 -- .. of the first nets
 pub nets-first : (f : ℕ → Bool) (P : ℕ → Type 0) (r v : ℕ) → First f 0 v r → (x : ℕ) → x < r → f x ≡ true → P x
 nets-first f P r v first x l t = absurd (true≢false (sym t ∙ first .before x (omega arith) l))
-
--- one more clause that is seen and touched
-pub touched-took : (codes marks old seen seen′ touched touched′ : List ℕ) (b : ℕ) → Took codes b seen seen′ → SeenTouched codes marks old seen touched → Keeps touched touched′
-    → Touched codes marks old touched′ b (b + length (clauseAt codes b)) → SeenTouched codes marks old seen′ touched′
-touched-took codes marks old seen seen′ touched touched′ b took t keeps here d s m = go (took .only d s m)
-  where
-    go : (d ≡ b) ⊎ HasMark seen d → Touched codes marks old touched′ d (d + length (clauseAt codes d))
-    go (inl e) = rw e here
-    go (inr h) = λ q i j. touched-keeps (getD marks q 0) (net (leadAt codes old q)) touched touched′ keeps (t d s h q i j)
-
--- nothing is seen yet
-pub none-touched : (codes marks old seen touched : List ℕ) (m : ℕ) → seen ≡ replicate m 0 → SeenTouched codes marks old seen touched
-none-touched codes marks old seen touched m e d s h = absurd (h (ap (λ (l : List ℕ). getD l d 0) e ∙ zeros m d))
 
 -- What is touched
 
@@ -196,48 +143,31 @@ pub not-moved : (older old : List ℕ) (w : ℕ) → getD older w 0 ≡ getD old
 unfolding hasMoved
 not-moved older old w e = ap not (eq-eqb (getD older w 0) (getD old w 0) e)
 
--- the mark of a side
-side-mark : (m : ℕ) → (isSelectNext m ≡ true) ⊎ (isSelectAfter m ≡ true) → 2 ≤ m
-unfolding isSelectNext isSelectAfter
-side-mark m (inl h) = omega (arith, eqb-true (m / 2 % 2) 1 h)
-side-mark m (inr h) = omega (arith, eqb-true (m / 4 % 2) 1 h)
+-- what is due has a tie
+module _ {codes starts old touched : List ℕ} {q : ℕ} where
+  pub due-tied : Due codes starts old touched q → tieAt starts q ≢ 0
+  due-tied (by-select h m) z = omega arith
+  due-tied (by-tie h o) z = omega arith
 
--- a search for a select whose lead is touched finds one
-pub select-found : (codes marks old touched : List ℕ) (b e : ℕ) → e ≡ b + length (clauseAt codes b) → (r : Bool)
-    → ((q : ℕ) → b ≤ q → q < e → 2 ≤ getD marks q 0 → HasMark touched (asSelect (net (leadAt codes old q))) → r ≡ true) → SelectTouched codes marks old touched b → r ≡ true
-select-found codes marks old touched b e end r found h =
-    found (h .place) (h .select .at .low) (omega (arith, h .select .at .high)) (side-mark (getD marks (h .place) 0) (h .select .marked)) (h .touched-so)
+  pub due-elim : {R : Type 0} → (2 ≤ tieAt starts q → HasMark touched (asSelect (net (leadAt codes old q))) → R)
+      → (getD starts q 0 % 2 ≡ 1 → OtherTouched codes old touched (startAt starts q) q → R) → Due codes starts old touched q → R
+  due-elim f g (by-select h m) = f h m
+  due-elim f g (by-tie h o) = g h o
 
--- two touched leads of different nets are found by a search for one and for another one behind it
-module _ (codes old touched : List ℕ) (b e : ℕ) (end : e ≡ b + length (clauseAt codes b)) where
-  abbrev netOf : ℕ → ℕ
-  netOf q = net (leadAt codes old q)
-
-  abbrev test : ℕ → ℕ → Bool
-  test skip q = isTouched touched skip (netOf q)
-
-  pub two-none : (q : ℕ) → First (test 0) b e q → q ≡ e → ¬ TwoTouched codes old touched b
-  two-none q f z t = true≢false (sym (t .first-touched) ∙ f .before (t .first) (t .first-at .low) (omega (arith, t .first-at .high)))
-
-  pub two-found : (q r : ℕ) → First (test 0) b e q → q ≢ e → First (test (netOf q)) (q + 1) e r → TwoTouched codes old touched b → r < e
-  two-found q r f n g t = go (ℕ-discrete (netOf (t .first)) (netOf q))
-    where
-      by : (p : ℕ) → LiteralAt codes b p → test 0 p ≡ true → netOf p ≢ netOf q → r < e
-      by p l h m = at (decLt p q) (ℕ-discrete p q) (decLt r e)
-        where
-          at : Dec (p < q) → Dec (p ≡ q) → Dec (r < e) → r < e
-          at (yes k) d c = absurd (true≢false (sym h ∙ f .before p (l .low) k))
-          at (no k) (yes d) c = absurd (m (ap netOf d))
-          at (no k) (no d) (yes c) = c
-          at (no k) (no d) (no c) =
-              let u = touched-is touched 0 (netOf p) h in
-              absurd (true≢false (sym (is-touched touched (netOf q) (netOf p) (u .0) m (u .2)) ∙ g .before p (omega arith) (omega (arith, l .high, g .high))))
-
-      go : Dec (netOf (t .first) ≡ netOf q) → r < e
-      go (no m) = by (t .first) (t .first-at) (t .first-touched) m
-      go (yes k) = by (t .second) (t .second-at) (t .second-touched) (λ j. t .apart (k ∙ sym j))
+-- a search for another touched lead finds one
+pub other-found : (codes old touched : List ℕ) (b e q r : ℕ) → e ≡ b + length (clauseAt codes b)
+    → First (λ p. isTouched touched (net (leadAt codes old q)) (net (leadAt codes old p))) b e r → OtherTouched codes old touched b q → r < e
+other-found codes old touched b e q r end f o = go (decLt r e)
+  where
+    go : Dec (r < e) → r < e
+    go (yes h) = h
+    go (no n) = absurd (true≢false (sym (o .touched-so) ∙ f .before (o .other) (o .at .low) (omega (arith, o .at .high, f .high))))
 
 -- What the marks say of the clauses
+
+tied-is : (starts : List ℕ) (q : ℕ) → getD starts q 0 % 2 ≡ 1 → isTied starts q ≡ true
+unfolding isTied
+tied-is starts q h = eq-eqb (getD starts q 0 % 2) 1 h
 
 -- the net of a lead
 net-lead : (old : List ℕ) (c : ℕ) → net c ≢ 0 → net c ≤ length old → net (leadOf old c) ≡ net (getD old (net c - 1) 0)
@@ -256,7 +186,7 @@ net-entry old leads w = go (decLt w (length old))
         omega (arith, leads .low c, net-lead old c n l, ap (λ (i : ℕ). net (getD old i 0)) s)
     go (no n) = let e : getD old w 0 ≡ 0 = List·getD-eq-default old 0 (omega arith) in omega (arith, e)
 
-module _ (codes marks starts heads next older old : List ℕ) (index : Indexed codes starts heads next) (nets : (q : ℕ) → net (getD codes q 0) ≤ length old)
+module _ (codes marks starts older old : List ℕ) (listed : Listed codes marks starts) (nets : (q : ℕ) → net (getD codes q 0) ≤ length old)
     (size : length older ≡ length old) (leads : LeadRow old) where
   moved-variable : (q : ℕ) → Moved older old (getD codes q 0) → netAt codes q ≢ 0
   moved-variable q h z = h (sym (lead-constant older (getD codes q 0) z) ∙ lead-constant old (getD codes q 0) z)
@@ -268,64 +198,60 @@ module _ (codes marks starts heads next older old : List ℕ) (index : Indexed c
   place-inside : (q : ℕ) → netAt codes q ≢ 0 → netAt codes q - 1 < length old
   place-inside q n = omega (arith, nets q)
 
-  -- the clause of a literal is the one that the index has
-  start-is-clause : (d q : ℕ) → LiteralAt codes d q → netAt codes q ≢ 0 → getD starts q 0 ≡ d
-  start-is-clause d q l n = one-clause codes (getD starts q 0) d q (start-of codes starts heads next index q n) l
-
-  module _ (seen : List ℕ) (sees : SeesMoved codes starts older old (length old) seen) where
-    pub changed-seen : (d : ℕ) → Changed codes older old d → HasMark seen d
-    changed-seen d s =
-        let q = s .place in
+  module _ (seen touched : List ℕ) (sees : SeesMoved codes starts older old (length old) seen touched) where
+    -- the clause of a place whose lead has changed
+    moved-seen : (d q : ℕ) → LiteralAt codes d q → Moved older old (getD codes q 0) → SeesPlace codes starts old seen touched q
+    moved-seen d q l m =
         let c = getD codes q 0 in
-        let n = moved-variable q (s .moved) in
-        let moved : getD older (net c - 1) 0 ≢ getD old (net c - 1) 0 = λ e. s .moved (sym (lead-inside older c n (omega (arith, nets q))) ∙ ap (flip (isInverse c)) e ∙ lead-inside old c n (nets q)) in
-        subst (HasMark seen) (start-is-clause d q (s .at) n)
-        (sees (net c - 1) (place-inside q n) (has-moved older old (net c - 1) moved) q (literal-inside codes d q (s .at)) (sym (place-of q n)))
+        let n = moved-variable q m in
+        let moved : getD older (net c - 1) 0 ≢ getD old (net c - 1) 0 = λ e. m (sym (lead-inside older c n (omega (arith, nets q))) ∙ ap (flip (isInverse c)) e ∙ lead-inside old c n (nets q)) in
+        sees (net c - 1) (place-inside q n) (has-moved older old (net c - 1) moved) q (literal-inside codes d q l) (sym (place-of q n))
 
-  module _ (touched first : List ℕ) (sees : SeesMoved codes starts older old (length old) first) (touches : SeenTouched codes marks old first touched) where
-    changed-touched : (d q : ℕ) → Changed codes older old d → LiteralAt codes d q → TouchedBy (getD marks q 0) touched (net (leadAt codes old q))
-    changed-touched d q s l = touches d (l .start) (changed-seen first sees d s) q (l .low) (l .high)
+    changed-seen : (d : ℕ) → Changed codes older old d → HasMark seen d
+    changed-seen d s = subst (HasMark seen) (listed-start codes marks starts listed d (s .place) (s .at)) (moved-seen d (s .place) (s .at) (s .moved) .seen-it)
 
-    shares-variable : (b d : ℕ) (s : Shares codes old b d) → netAt codes (s .place) ≢ 0
-    shares-variable b d s z = s .variable (omega (arith, leads .low (getD codes (s .place) 0)))
+    -- what it has touched at another place of the clause
+    touched-at : (d q p : ℕ) → LiteralAt codes d q → Moved older old (getD codes q 0) → LiteralAt codes d p
+        → TouchedBy (isTied starts q) (tieAt starts p) touched (net (leadAt codes old p))
+    touched-at d q p l m k =
+        let e = listed-start codes marks starts listed d q l in
+        moved-seen d q l m .touches p (omega (arith, k .low)) (subst⁻¹ (λ (i : ℕ). p < i + length (clauseAt codes i)) e (k .high))
 
-    shares-touched : (b d : ℕ) → Changed codes older old d → (s : Shares codes old b d) → isTouched touched 0 (net (leadAt codes old (s .place))) ≡ true
-    shares-touched b d t s = is-touched touched 0 _ (s .variable) (s .variable) (subst (HasMark touched) (sym (s .same)) (changed-touched d (s .other) t (s .other-at) .0))
+    ties-touched : (d p : ℕ) → ChangedIn (TiedAt codes marks) codes older old d → TiedAt codes marks d p → HasMark touched (net (leadAt codes old p))
+    ties-touched d p s k =
+        touched-at d (s .place) p (s .at .at) (s .moved) (k .at) .tied (tied-is starts (s .place) (listed-tie codes marks starts listed d (s .place) (s .at .at) (s .at)))
+        (let h = listed-tie codes marks starts listed d p (k .at) k in omega arith)
 
-    -- a clause that is due and shares a touched lead is seen
-    module _ (seen : List ℕ) (keeps : Keeps first seen) (all : SeesTouched codes marks starts old touched (length old) seen) where
-      shares-seen : (b d : ℕ) → Changed codes older old d → Shares codes old b d → SelectTouched codes marks old touched b ⊎ TwoTouched codes old touched b → HasMark seen b
-      shares-seen b d t s due =
-          let q = s .place in
+    selects-touched : (d p : ℕ) → Changed codes older old d → SelectAt codes marks d p
+        → HasMark touched (net (leadAt codes old p)) × HasMark touched (asSelect (net (leadAt codes old p)))
+    selects-touched d p s k = touched-at d (s .place) p (s .at) (s .moved) (k .at) .select (listed-select codes marks starts listed d p (k .at) k)
+
+    -- a place that is due and has a touched lead is seen
+    module _ (last : List ℕ) (keeps : Keeps seen last) (all : SeesTouched codes starts old touched (length old) last) where
+      due-seen : (b q : ℕ) → LiteralAt codes b q → net (leadAt codes old q) ≢ 0 → HasMark touched (net (leadAt codes old q)) → Due codes starts old touched q → HasMark last b
+      due-seen b q l v m due =
           let c = getD codes q 0 in
-          let n = shares-variable b d s in
-          let e = start-is-clause b q (s .at) n in
+          let n : netAt codes q ≢ 0 = λ z. v (omega (arith, leads .low c)) in
           let lead : net (leadOf old c) ≡ net (getD old (net c - 1) 0) = net-lead old c n (nets q) in
-          subst (HasMark seen) e
-          (all (net c - 1) (place-inside q n) (subst (λ (x : ℕ). isTouched touched 0 x ≡ true) lead (shares-touched b d t s)) q (literal-inside codes b q (s .at)) (sym (place-of q n))
-          (subst⁻¹ (λ (x : ℕ). SelectTouched codes marks old touched x ⊎ TwoTouched codes old touched x) e due))
+          subst (HasMark last) (listed-start codes marks starts listed b q l)
+          (all (net c - 1) (place-inside q n) (subst (λ (x : ℕ). isTouched touched 0 x ≡ true) lead (is-touched touched 0 _ v v m)) q (literal-inside codes b q l) (sym (place-of q n)) due)
 
-      pub active-seen : (b : ℕ) → Active codes marks older old b → HasMark seen b
-      active-seen b (changed s) = keeps b (changed-seen first sees b s)
+      pub active-seen : (b : ℕ) → Active codes marks older old b → HasMark last b
+      active-seen b (changed s) = keeps b (changed-seen b s)
       active-seen b (select d s k) =
-          shares-seen b d s
-          (record { place = k .place; at = k .select .at; other = k .other; other-at = k .other-select .at; same = k .same; variable = k .variable })
-          (inl
+          let h = selects-touched d (k .other) s (k .other-at) in
+          due-seen b (k .place) (k .at .at) (k .variable) (subst⁻¹ (HasMark touched) (k .same) (h .0))
+          (by-select (listed-select codes marks starts listed b (k .place) (k .at .at) (k .at)) (subst⁻¹ (λ (n : ℕ). HasMark touched (asSelect n)) (k .same) (h .1)))
+      active-seen b (tied d s k) =
+          let f = k .first in
+          let g = k .second in
+          due-seen b (f .place) (f .at .at) (f .variable) (touched-one f)
+          (by-tie (listed-tie codes marks starts listed b (f .place) (f .at .at) (f .at))
           (record {
-            place = k .place;
-            select = k .select;
-            touched-so = subst (λ (n : ℕ). HasMark touched (asSelect n)) (sym (k .same))
-                (changed-touched d (k .other) s (k .other-select .at) .1 (side-mark (getD marks (k .other) 0) (k .other-select .marked)));
+            other = g .place;
+            at = subst⁻¹ (λ (i : ℕ). LiteralAt codes i (g .place)) (listed-start codes marks starts listed b (f .place) (f .at .at)) (g .at .at);
+            touched-so = is-touched touched _ _ (g .variable) (λ e. k .apart (sym e)) (touched-one g);
           }))
-      active-seen b (two d s k) =
-          shares-seen b d s (k .first)
-          (inr
-          (record {
-            first = k .first .place;
-            first-at = k .first .at;
-            first-touched = shares-touched b d s (k .first);
-            second = k .second .place;
-            second-at = k .second .at;
-            second-touched = shares-touched b d s (k .second);
-            apart = k .apart;
-          }))
+        where
+          touched-one : (h : Shares (TiedAt codes marks) codes old b d) → HasMark touched (net (leadAt codes old (h .place)))
+          touched-one h = subst⁻¹ (HasMark touched) (h .same) (ties-touched d (h .other) s (h .other-at))

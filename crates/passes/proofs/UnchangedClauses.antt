@@ -1,7 +1,7 @@
 -- Clauses none of whose leads has changed: what a round draws from them the round before has drawn.
 -- Assumes nothing.
 use mathlib.Core.Path.{_≡_, sym, _∙_, ap, subst, subst⁻¹}
-use mathlib.Core.Logic.{_⊎_, inl, inr, ⊎-map}
+use mathlib.Core.Logic.{_≢_, _⊎_, inl, inr, ⊎-map, ⊎-elim}
 use mathlib.Core.Bool.{Bool, false≢true, not}
 use mathlib.Core.List.{List, [], _∷_, List·Memᴰ·head, List·Memᴰ·tail}
 use Prim.Native.Nat.{ℕ, _+_, _<_}
@@ -14,20 +14,20 @@ use Rattle.clauses.proofs.Codes.{negate-negate}
 use Rattle.gates.specs.Sign.{flip}
 use Rattle.gates.specs.Gate.{Input}
 use Rattle.gates.specs.Found.{clauseAt, Starts, LiteralAt}
+use Rattle.gates.specs.Mark.{startOf}
 use Rattle.gates.proofs.Rows.{clause-at, mem-at, literal-in, literal-of}
 use Rattle.rules.specs.Answer.{leadOf}
 use Rattle.passes.specs.Making.{Kernel, Making, fresh, JoinedBy}
 use Rattle.passes.specs.Passing.{UnitJoined, ClauseJoined, AndJoined}
-use Rattle.passes.specs.Matching.{HasLead, Alike}
+use Rattle.passes.specs.Matching.{AndAt, HasLead, Alike}
 use Rattle.passes.specs.Xors.{packed, restAt, keyAt, sumAt}
 use Rattle.passes.specs.Marked.{Marked}
 use Rattle.passes.specs.RowJoined.{SideAt}
-use Rattle.passes.specs.Parts.{Moved, Changed}
+use Rattle.passes.specs.Parts.{Moved, ChangedIn, Changed, TiedAt}
 use Rattle.passes.specs.declared.tally.Tally.{Tally}
 use Rattle.passes.proofs.OddNets.{odd-nets-alike, odd-sign-alike}
 use Rattle.passes.proofs.Searches.{lead-false, lead-true, lead-negate}
 use Rattle.passes.proofs.XorPlaces.{others-at}
-use Rattle.passes.proofs.Starts.{start-is}
 use Rattle.passes.proofs.PartPlaces.{side-in}
 
 -- each of the list's elements has the one property, or some element has the other
@@ -64,6 +64,45 @@ unchanged-or-changed row older old b s =
     changed : (x : ℕ) × Mem x (clauseAt row b) × Moved older old x → Changed row older old b
     changed (x, m, n) = let o = literal-of row b s x m in record { place = o .place; at = o .at; moved = subst⁻¹ (Moved older old) (o .is) n }
 
+-- no lead of the inputs of the AND at p has changed
+pub record InputsUnchanged (row older old : List ℕ) (p : ℕ) : Type 0 where
+  pub kept : (q : ℕ) → LiteralAt row (startOf row p) q → q ≢ p → Kept older old (getD row q 0)
+
+pub inputs-unchanged-or-changed : {cs : List (List ℕ)} {row marks : List ℕ} (older old : List ℕ) → Marked cs row marks → (p : ℕ) → AndAt row marks p
+    → InputsUnchanged row older old p ⊎ ChangedIn (TiedAt row marks) row older old (startOf row p)
+inputs-unchanged-or-changed {row = row} {marks = marks} older old marked p a =
+    ⊎-map unchanged changed (all-or-some {P = Stays} {Q = Goes} (λ x. test x (ℕ-discrete x (getD row p 0)) (ℕ-discrete (leadOf older x) (leadOf old x))) (clauseAt row b))
+  where
+    b : ℕ
+    b = startOf row p
+
+    Stays : ℕ → Type 0
+    Stays x = (x ≡ getD row p 0) ⊎ Kept older old x
+
+    Goes : ℕ → Type 0
+    Goes x = (x ≢ getD row p 0) × Moved older old x
+
+    test : (x : ℕ) → Dec (x ≡ getD row p 0) → Dec (Kept older old x) → Stays x ⊎ Goes x
+    test x (yes e) d = inl (inl e)
+    test x (no n) (yes e) = inl (inr e)
+    test x (no n) (no m) = inr (n, m)
+
+    unchanged : ((x : ℕ) → Mem x (clauseAt row b) → Stays x) → InputsUnchanged row older old p
+    unchanged h = record { kept = λ q l n. ⊎-elim (λ e. absurd (n (marked .literal-once b q p l (a .placed .at) e))) (λ k. k) (h (getD row q 0) (literal-in row b q l)) }
+
+    changed : (x : ℕ) × Mem x (clauseAt row b) × Goes x → ChangedIn (TiedAt row marks) row older old b
+    changed (x, m, (n, k)) =
+        let o = literal-of row b (a .placed .at .start) x m in
+        record {
+          place = o .place;
+          at =
+              record {
+                at = o .at;
+                by = inl (record { output = p; output-at = a .placed .at; mark = a .mark; apart = λ e. n (sym (o .is) ∙ ap (λ (i : ℕ). getD row i 0) (sym e)) });
+              };
+          moved = subst⁻¹ (Moved older old) (o .is) k;
+        }
+
 module _ (older old : List ℕ) where
   pub kernel-before : (x y : ℕ) → Kept older old x → Kept older old y → Kernel old x y → Kernel older x y
   kernel-before x y e f k = e ∙ k ∙ sym f
@@ -94,7 +133,7 @@ joined-before making x y (inl c) = absurd (false≢true c)
 joined-before making x y (inr k) = inr (making .still x y k)
 
 module _ {row older old : List ℕ} {b : ℕ} (unchanged : Unchanged row older old b) where
-  pub kept-at : {p : ℕ} → LiteralAt row b p → Kept older old (getD row p 0)
+  kept-at : {p : ℕ} → LiteralAt row b p → Kept older old (getD row p 0)
   kept-at {p} k = unchanged .kept (getD row p 0) (literal-in row b p k)
 
   -- Rules 1, 2 and 3
@@ -128,18 +167,6 @@ module _ {row older old : List ℕ} {b : ℕ} (unchanged : Unchanged row older o
         inputs : (r s : ℕ) → In r → In s → Kernel old s 1 ⊎ Kernel old s r → Kernel older s 1 ⊎ Kernel older s r
         inputs r s i l = ⊎-map (kernel-before older old s 1 (kept l) (kept-true older old)) (kernel-before older old s r (kept l) (kept i))
 
-  -- The leads of an AND's inputs
-
-  module _ {p x : ℕ} (k : LiteralAt row b p) where
-    lead-kept : {leads : List ℕ} (h : HasLead row leads p x) → Kept older old (getD row (h .place) 0)
-    lead-kept h = kept-at (subst⁻¹ (λ (a : ℕ). LiteralAt row a (h .place)) (start-is row b p k) (h .at))
-
-    lead-before : HasLead row old p x → HasLead row older p x
-    lead-before h = record { place = h .place; at = h .at; apart = h .apart; lead = lead-kept h ∙ h .lead }
-
-    lead-after : HasLead row older p x → HasLead row old p x
-    lead-after h = record { place = h .place; at = h .at; apart = h .apart; lead = sym (lead-kept h) ∙ h .lead }
-
   -- Rules 5 and 6
 
   module _ (p : ℕ) where
@@ -156,13 +183,16 @@ module _ {row older old : List ℕ} {b : ℕ} (unchanged : Unchanged row older o
 
 -- Rule 4
 
-pub alike-before : {row older old : List ℕ} {b p d q : ℕ} → Unchanged row older old b → LiteralAt row b p → Unchanged row older old d → LiteralAt row d q
-    → Alike row old p q → Alike row older p q
-alike-before c k e l a =
-    record {
-      left = λ x (h, n). (lead-before e l (a .left x (lead-after c k h, n) .0), n);
-      right = λ x (h, n). (lead-before c k (a .right x (lead-after e l h, n) .0), n);
-    }
+module _ {row older old : List ℕ} {p x : ℕ} (unchanged : InputsUnchanged row older old p) where
+  lead-before : HasLead row old p x → HasLead row older p x
+  lead-before h = record { place = h .place; at = h .at; apart = h .apart; lead = unchanged .kept (h .place) (h .at) (h .apart) ∙ h .lead }
+
+  lead-after : HasLead row older p x → HasLead row old p x
+  lead-after h = record { place = h .place; at = h .at; apart = h .apart; lead = sym (unchanged .kept (h .place) (h .at) (h .apart)) ∙ h .lead }
+
+pub alike-before : {row older old : List ℕ} {p q : ℕ} → InputsUnchanged row older old p → InputsUnchanged row older old q → Alike row old p q → Alike row older p q
+alike-before c e a =
+    record { left = λ x (h, n). (lead-before e (a .left x (lead-after c h, n) .0), n); right = λ x (h, n). (lead-before c (a .right x (lead-after e h, n) .0), n) }
 
 -- Rules 7 and 8
 

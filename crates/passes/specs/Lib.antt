@@ -11,4 +11,5 @@ pub mod Scratch
 pub mod Marked
 pub mod RowJoined
 pub mod Parts
+pub mod Indexing
 pub mod Taking

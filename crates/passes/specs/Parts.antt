@@ -8,7 +8,7 @@ use mathlib.Core.List.{List}
 use Prim.Native.Nat.{ℕ, _+_, _≤_, _<_}
 use lib.ListN.{length, getD}
 use Rattle.clauses.specs.Code.{net}
-use Rattle.gates.specs.Found.{clauseAt, Starts, LiteralAt, isSelectNext, isSelectAfter}
+use Rattle.gates.specs.Found.{clauseAt, Starts, LiteralAt, isAnd, isSelectNext, isSelectAfter, isXor}
 use Rattle.rules.specs.Answer.{leadOf}
 use Rattle.passes.specs.Passing.{leadAt}
 
@@ -33,47 +33,54 @@ pub record Part (row marks part partMarks : List ℕ) : Type 0 where
 abbrev pub Moved : List ℕ → List ℕ → ℕ → Type 0
 Moved older old x = leadOf older x ≢ leadOf old x
 
--- a lead of the clause at b has changed
-pub record Changed (row older old : List ℕ) (b : ℕ) : Type 0 where
+-- the lead at one of these places of the clause at b has changed
+pub record ChangedIn (In : ℕ → ℕ → Type 0) (row older old : List ℕ) (b : ℕ) : Type 0 where
   pub place : ℕ
-  pub at : LiteralAt row b place
+  pub at : In b place
   pub moved : Moved older old (getD row place 0)
 
--- the clauses at b and d have leads of one net
-pub record Shares (row old : List ℕ) (b d : ℕ) : Type 0 where
+-- a lead of the clause at b has changed
+abbrev pub Changed : List ℕ → List ℕ → List ℕ → ℕ → Type 0
+Changed row older old b = ChangedIn (LiteralAt row) row older old b
+
+-- the clauses at b and d have leads of one net at such places
+pub record Shares (In : ℕ → ℕ → Type 0) (row old : List ℕ) (b d : ℕ) : Type 0 where
   pub place : ℕ
-  pub at : LiteralAt row b place
+  pub at : In b place
   pub other : ℕ
-  pub other-at : LiteralAt row d other
+  pub other-at : In d other
   pub same : net (leadAt row old place) ≡ net (leadAt row old other)
   pub variable : net (leadAt row old place) ≢ 0
 
 -- .. and of another net too
-pub record SharesTwo (row old : List ℕ) (b d : ℕ) : Type 0 where
-  pub first : Shares row old b d
-  pub second : Shares row old b d
+pub record SharesTwo (In : ℕ → ℕ → Type 0) (row old : List ℕ) (b d : ℕ) : Type 0 where
+  pub first : Shares In row old b d
+  pub second : Shares In row old b d
   pub apart : net (leadAt row old (first .place)) ≢ net (leadAt row old (second .place))
+
+-- an AND of the clause at b has its output at another place than q
+pub record InputAt (row marks : List ℕ) (b q : ℕ) : Type 0 where
+  pub output : ℕ
+  pub output-at : LiteralAt row b output
+  pub mark : isAnd (getD marks output 0) ≡ true
+  pub apart : output ≢ q
+
+-- a gate ties place q of the clause at b: q is an input of an AND, or a literal of an XOR
+pub record TiedAt (row marks : List ℕ) (b q : ℕ) : Type 0 where
+  pub at : LiteralAt row b q
+  pub by : InputAt row marks b q ⊎ (isXor (getD marks (b + length (clauseAt row b)) 0) ≡ true)
 
 -- place p of the clause at b holds the inverse of a select of ITEs
 pub record SelectAt (row marks : List ℕ) (b p : ℕ) : Type 0 where
   pub at : LiteralAt row b p
   pub marked : (isSelectNext (getD marks p 0) ≡ true) ⊎ (isSelectAfter (getD marks p 0) ≡ true)
 
--- selects of ITEs in the clauses at b and d have leads of one net
-pub record SharesSelect (row marks old : List ℕ) (b d : ℕ) : Type 0 where
-  pub place : ℕ
-  pub select : SelectAt row marks b place
-  pub other : ℕ
-  pub other-select : SelectAt row marks d other
-  pub same : net (leadAt row old place) ≡ net (leadAt row old other)
-  pub variable : net (leadAt row old place) ≢ 0
-
--- a round other than the first has to go over the clause at b: two ANDs or XORs that a rule takes together share the leads of two nets, or the
--- rules about one gate alone join them; two ITEs share that of the select
+-- a round other than the first has to go over the clause at b: two ANDs or XORs that a rule takes together share the leads of two nets at tied
+-- places, or the rules about one gate alone join them; two ITEs share that of the select
 pub data Active (row marks older old : List ℕ) (b : ℕ) : Type 0 where
   changed : Changed row older old b → Active row marks older old b
-  select : (d : ℕ) → Changed row older old d → SharesSelect row marks old b d → Active row marks older old b
-  two : (d : ℕ) → Changed row older old d → SharesTwo row old b d → Active row marks older old b
+  select : (d : ℕ) → Changed row older old d → Shares (SelectAt row marks) row old b d → Active row marks older old b
+  tied : (d : ℕ) → ChangedIn (TiedAt row marks) row older old d → SharesTwo (TiedAt row marks) row old b d → Active row marks older old b
 
 -- every active clause is in the part
 abbrev pub HoldsActive : List ℕ → List ℕ → List ℕ → List ℕ → List ℕ → List ℕ → Type 0

@@ -5,34 +5,15 @@ use mathlib.Core.Path.{_≡_}
 use mathlib.Core.Logic.{_≢_, _⊎_}
 use mathlib.Core.Bool.{Bool, true, not, cond, _&&_}
 use mathlib.Core.List.{List, [], _∷_}
-use Prim.Native.Nat.{ℕ, _+_, _-_, _≤_, _<_}
+use Prim.Native.Nat.{ℕ, _+_, _-_, _%_, _≤_, _<_}
 use lib.Dec.{eqb}
 use lib.ListN.{length, getD, take}
-use Rattle.clauses.specs.Limit.{maxNets, maxEntries}
+use Rattle.clauses.specs.Limit.{maxNets}
 use Rattle.clauses.specs.Code.{net}
 use Rattle.gates.specs.Found.{clauseAt, Starts, LiteralAt}
 use Rattle.passes.specs.Passing.{leadAt}
-use Rattle.passes.specs.Sides.{Chained}
-use Rattle.passes.specs.Parts.{Copy, Part, SelectAt}
-
--- The row by its nets
-
--- the net at place q
-abbrev pub netAt : List ℕ → ℕ → ℕ
-netAt codes q = net (getD codes q 0)
-
--- the second half of `starts` has for each clause's start the place of its ending
-abbrev pub ListsEnds : List ℕ → List ℕ → Type 0
-ListsEnds codes starts = (b : ℕ) → Starts codes b → getD starts (maxEntries + b) 0 ≡ b + length (clauseAt codes b)
-
--- `starts` has for each literal's place the start of its clause, and for each start the ending; the places of each net are chained
-pub record Indexed (codes starts heads next : List ℕ) : Type 0 where
-  pub start : (q : ℕ) → getD codes q 0 ≢ 0 → LiteralAt codes (getD starts q 0) q
-  pub end : ListsEnds codes starts
-  pub chains : Chained (netAt codes) (length codes) heads next
-  pub start-room : maxEntries + length codes ≤ length starts
-  pub head-room : length heads ≡ maxNets + 1
-  pub next-room : length codes ≤ length next
+use Rattle.passes.specs.Indexing.{netAt, startAt, tieAt}
+use Rattle.passes.specs.Parts.{Copy, Part}
 
 -- Marks by net, and by place
 
@@ -61,54 +42,50 @@ isTouched touched skip n = not (eqb n 0) && (not (eqb n skip) && not (eqb (getD 
 abbrev pub asSelect : ℕ → ℕ
 asSelect n = maxNets + 1 + n
 
--- net n is touched, and as a select if the mark is that of one
-abbrev pub TouchedBy : ℕ → List ℕ → ℕ → Type 0
-TouchedBy mark touched n = HasMark touched n × (2 ≤ mark → HasMark touched (asSelect n))
+-- net n is touched for a place with these ties: as a select if it is one, and else if the tie counts
+pub record TouchedBy (counts : Bool) (tie : ℕ) (touched : List ℕ) (n : ℕ) : Type 0 where
+  pub tied : counts ≡ true → tie % 2 ≡ 1 → HasMark touched n
+  pub select : 2 ≤ tie → HasMark touched n × HasMark touched (asSelect n)
 
 -- the leads from place b up to e are touched
-abbrev pub Touched : List ℕ → List ℕ → List ℕ → List ℕ → ℕ → ℕ → Type 0
-Touched codes marks old touched b e = (q : ℕ) → b ≤ q → q < e → TouchedBy (getD marks q 0) touched (net (leadAt codes old q))
+abbrev pub Touched : List ℕ → List ℕ → List ℕ → Bool → List ℕ → ℕ → ℕ → Type 0
+Touched codes starts old counts touched b e = (q : ℕ) → b ≤ q → q < e → TouchedBy counts (tieAt starts q) touched (net (leadAt codes old q))
 
--- the leads of the clauses that are seen are touched
-abbrev pub SeenTouched : List ℕ → List ℕ → List ℕ → List ℕ → List ℕ → Type 0
-SeenTouched codes marks old seen touched = (d : ℕ) → Starts codes d → HasMark seen d → Touched codes marks old touched d (d + length (clauseAt codes d))
+-- a gate ties place q
+unfoldable pub isTied : List ℕ → ℕ → Bool
+isTied starts q = eqb (getD starts q 0 % 2) 1
 
--- the clauses of net w are seen
-abbrev pub SeesNet : List ℕ → List ℕ → ℕ → List ℕ → Type 0
-SeesNet codes starts w seen = (q : ℕ) → q < length codes → netAt codes q ≡ w → HasMark seen (getD starts q 0)
+-- the clause of place q, whose lead has changed, is seen, and its leads are touched
+pub record SeesPlace (codes starts old seen touched : List ℕ) (q : ℕ) : Type 0 where
+  pub seen-it : HasMark seen (startAt starts q)
+  pub touches : Touched codes starts old (isTied starts q) touched (startAt starts q) (startAt starts q + length (clauseAt codes (startAt starts q)))
+
+-- .. of the places of net w
+abbrev pub SeesNet : List ℕ → List ℕ → List ℕ → ℕ → List ℕ → List ℕ → Type 0
+SeesNet codes starts old w seen touched = (q : ℕ) → q < length codes → netAt codes q ≡ w → SeesPlace codes starts old seen touched q
 
 -- .. of the nets up to w whose leads have changed
-abbrev pub SeesMoved : List ℕ → List ℕ → List ℕ → List ℕ → ℕ → List ℕ → Type 0
-SeesMoved codes starts older old w seen = (x : ℕ) → x < w → hasMoved older old x ≡ true → SeesNet codes starts (x + 1) seen
+abbrev pub SeesMoved : List ℕ → List ℕ → List ℕ → List ℕ → ℕ → List ℕ → List ℕ → Type 0
+SeesMoved codes starts older old w seen touched = (x : ℕ) → x < w → hasMoved older old x ≡ true → SeesNet codes starts old (x + 1) seen touched
 
--- two leads of the clause at b that are touched are of different nets
-pub record TwoTouched (codes old touched : List ℕ) (b : ℕ) : Type 0 where
-  pub first : ℕ
-  pub first-at : LiteralAt codes b first
-  pub first-touched : isTouched touched 0 (net (leadAt codes old first)) ≡ true
-  pub second : ℕ
-  pub second-at : LiteralAt codes b second
-  pub second-touched : isTouched touched 0 (net (leadAt codes old second)) ≡ true
-  pub apart : net (leadAt codes old first) ≢ net (leadAt codes old second)
+-- a touched lead of the clause at b is of another net than the lead at q
+pub record OtherTouched (codes old touched : List ℕ) (b q : ℕ) : Type 0 where
+  pub other : ℕ
+  pub at : LiteralAt codes b other
+  pub touched-so : isTouched touched (net (leadAt codes old q)) (net (leadAt codes old other)) ≡ true
 
--- the lead of a select in the clause at b is touched as that of a select
-pub record SelectTouched (codes marks old touched : List ℕ) (b : ℕ) : Type 0 where
-  pub place : ℕ
-  pub select : SelectAt codes marks b place
-  pub touched-so : HasMark touched (asSelect (net (leadAt codes old place)))
-
--- the clause at b, of which a lead is touched, has to be taken
-abbrev pub Due : List ℕ → List ℕ → List ℕ → List ℕ → ℕ → Type 0
-Due codes marks old touched b = SelectTouched codes marks old touched b ⊎ TwoTouched codes old touched b
+-- the clause of place q, whose lead is touched, has to be taken: as a select its lead is touched as one, or a gate ties it and another touched lead
+pub data Due (codes starts old touched : List ℕ) (q : ℕ) : Type 0 where
+  by-select : 2 ≤ tieAt starts q → HasMark touched (asSelect (net (leadAt codes old q))) → Due codes starts old touched q
+  by-tie : getD starts q 0 % 2 ≡ 1 → OtherTouched codes old touched (startAt starts q) q → Due codes starts old touched q
 
 -- the clauses of net w that are due are seen
-abbrev pub SeesDue : List ℕ → List ℕ → List ℕ → List ℕ → List ℕ → ℕ → List ℕ → Type 0
-SeesDue codes marks starts old touched w seen = (q : ℕ) → q < length codes → netAt codes q ≡ w → Due codes marks old touched (getD starts q 0) → HasMark seen (getD starts q 0)
+abbrev pub SeesDue : List ℕ → List ℕ → List ℕ → List ℕ → ℕ → List ℕ → Type 0
+SeesDue codes starts old touched w seen = (q : ℕ) → q < length codes → netAt codes q ≡ w → Due codes starts old touched q → HasMark seen (startAt starts q)
 
 -- .. of the nets up to w whose leads are touched
-abbrev pub SeesTouched : List ℕ → List ℕ → List ℕ → List ℕ → List ℕ → ℕ → List ℕ → Type 0
-SeesTouched codes marks starts old touched w seen =
-    (x : ℕ) → x < w → isTouched touched 0 (net (getD old x 0)) ≡ true → SeesDue codes marks starts old touched (x + 1) seen
+abbrev pub SeesTouched : List ℕ → List ℕ → List ℕ → List ℕ → ℕ → List ℕ → Type 0
+SeesTouched codes starts old touched w seen = (x : ℕ) → x < w → isTouched touched 0 (net (getD old x 0)) ≡ true → SeesDue codes starts old touched (x + 1) seen
 
 -- the k places from b on, which had no mark, have got one, and no others have
 pub record Sees (seen : List ℕ) (b k : ℕ) (seen′ : List ℕ) : Type 0 where

@@ -1,17 +1,18 @@
-// The places of a row by their nets, and the start and the ending of the clause of each: made once for a row of clauses.
+// The places of a row by their nets, the start and the ending of the clause of each, and what its gates tie: made once for a row of clauses.
 
 ghost use mathlib.Core.Path.{_≡_};
-ghost use Prim.Native.Nat.{ℕ, _+_, _*_, _≤_, _<_};
-ghost use mathlib.Core.Logic.{_≢_};
+ghost use mathlib.Core.Bool.{true};
+ghost use Prim.Native.Nat.{ℕ, _+_, _*_, _%_, _≤_, _<_};
+ghost use mathlib.Core.Logic.{_⊎_};
 ghost use lib.ListN.{length, getD, replicate};
 ghost use Rattle.clauses.specs.Limit.{maxNets, maxEntries};
-ghost use Rattle.gates.specs.Found.{LiteralAt};
+ghost use Rattle.gates.specs.Found.{isAnd};
 ghost use Rattle.passes.specs.Sides.{Chained};
-ghost use Rattle.passes.specs.Taking.{netAt, ListsEnds, Indexed};
+ghost use Rattle.passes.specs.Parts.{Ended};
+ghost use Rattle.passes.specs.Indexing.{netAt, FirstTwo, Ties, ListedAt, Listed, Indexed};
 use clauses::limits::MAX_ENTRIES;
 use gates::fill::fill;
 use gates::walk::clause_end;
-use gates::walk::literal;
 
 // Puts place q into the chain of its net.
 fn link(codes: &[u32], q: usize, heads: &mut [u32], next: &mut [u32])
@@ -39,44 +40,97 @@ fn chain_places(codes: &[u32], heads: &mut [u32], next: &mut [u32])
     }
 }
 
-// The start of the clause of each place.
-fn list_starts(codes: &[u32], starts: &mut [u32])
-    requires { ⌜ (length (now codes) ≤ maxEntries) × (length (now codes) ≤ length (now starts)) ⌝ }
-    ensures { λ _. ⌜ ((q : ℕ) → q < length (now (codes .entry)) → getD (now (codes .entry)) q 0 ≢ 0 → LiteralAt (now (codes .entry)) (getD (now (starts .exit)) q 0) q) ⌝ }
+// The first place from `from` on, below `to`, that is the output of an AND; none below `to` is where it is not below `to`.
+fn first_and(marks: &[u8], from: usize, to: usize) -> usize
+    requires { ⌜ to ≤ length (now marks) ⌝ }
+    ensures { λ r. ⌜ (from ≤ to → r ≤ to) × ((p : ℕ) → from ≤ p → p < to → isAnd (getD (now (marks .entry)) p 0) ≡ true → r ≤ p) ⌝ }
 {
-    let mut b = 0;
-    let mut p = 0;
-    while p < codes.len() {
-        starts[p] = b as u32;
-        if literal(codes, p) == 0 {
-            b = p + 1;
+    let mut p = from;
+    while p < to {
+        if marks[p] % 2 == 1 {
+            return p;
         }
         p += 1;
     }
+    p
 }
 
-// The ending of the clause of each start, behind the first 16,384 entries, which stay.
-fn list_ends(codes: &[u32], starts: &mut [u32])
+// Whether a gate ties place q of the clause that ends at e, of which the first outputs of ANDs are at `first` and `second`.
+fn is_tied(marks: &[u8], q: usize, e: usize, first: usize, second: usize) -> bool
+    requires { ⌜ e < length (now marks) ⌝ }
+    ensures { λ r. ⌜ ((b : ℕ) → FirstTwo (now (marks .entry)) b e first second → Ties (now (marks .entry)) b e q → r ≡ true) ⌝ }
+{
+    if marks[e] == 1 {
+        return true;
+    }
+    if q != first {
+        return first < e;
+    }
+    second < e
+}
+
+// What the gates tie at place q of that clause.
+fn tie_of(marks: &[u8], q: usize, e: usize, first: usize, second: usize) -> u32
+    requires { ⌜ (q < e) × (e < length (now marks)) ⌝ }
+    ensures { λ r. ⌜ (r < 4) × ((b : ℕ) → FirstTwo (now (marks .entry)) b e first second → Ties (now (marks .entry)) b e q → r % 2 ≡ 1) × (2 ≤ getD (now (marks .entry)) q 0 → 2 ≤ r) ⌝ }
+{
+    let tied = is_tied(marks, q, e, first, second);
+    if marks[q] < 2 {
+        if tied {
+            return 1;
+        }
+        return 0;
+    }
+    if tied {
+        return 3;
+    }
+    2
+}
+
+// Lists the places of the clause from b up to its ending at e.
+fn list_places(marks: &[u8], b: usize, e: usize, starts: &mut [u32])
+    requires { ⌜ (b ≤ e) × (e < length (now marks)) × (e ≤ length (now starts)) × (e ≤ maxEntries) ⌝ }
+    ensures { λ _. ⌜ ((q : ℕ) → b ≤ q → q < e → ListedAt (now (marks .entry)) b e (now (starts .exit)) q) ⌝ }
+    ensures { λ _. ⌜ ((q : ℕ) → (q < b) ⊎ (e ≤ q) → getD (now (starts .exit)) q 0 ≡ getD (now (starts .entry)) q 0) ⌝ }
+{
+    let first = first_and(marks, b, e);
+    let second = first_and(marks, first + 1, e);
+    let mut q = b;
+    while q < e {
+        starts[q] = (4 * b) as u32 + tie_of(marks, q, e, first, second);
+        q += 1;
+    }
+}
+
+// Lists the places and the endings of all clauses.
+fn list_clauses(codes: &[u32], marks: &[u8], starts: &mut [u32])
+    requires { ⌜ Ended (now codes) × (length (now marks) ≡ length (now codes)) ⌝ }
     requires { ⌜ (length (now codes) ≤ maxEntries) × (maxEntries + length (now codes) ≤ length (now starts)) ⌝ }
-    ensures { λ _. ⌜ ((q : ℕ) → q < maxEntries → getD (now (starts .exit)) q 0 ≡ getD (now (starts .entry)) q 0) ⌝ }
-    ensures { λ _. ⌜ ListsEnds (now (codes .entry)) (now (starts .exit)) ⌝ }
+    ensures { λ _. ⌜ Listed (now (codes .entry)) (now (marks .entry)) (now (starts .exit)) ⌝ }
 {
     let mut b = 0;
     while b < codes.len() {
         let e = clause_end(codes, b);
+        list_places(marks, b, e, starts);
         starts[MAX_ENTRIES + b] = e as u32;
         b = e + 1;
     }
 }
 
 // Makes the index of a row.
-pub fn index_row(codes: &[u32], starts: &mut [u32], heads: &mut [u32], next: &mut [u32])
+pub fn index_row(
+    codes: &[u32],
+    marks: &[u8],
+    starts: &mut [u32],
+    heads: &mut [u32],
+    next: &mut [u32],
+)
+    requires { ⌜ Ended (now codes) × (length (now marks) ≡ length (now codes)) ⌝ }
     requires { ⌜ (length (now codes) ≤ maxEntries) × ((q : ℕ) → netAt (now codes) q ≤ maxNets) ⌝ }
     requires { ⌜ (length (now starts) ≡ 2 * maxEntries) × (length (now heads) ≡ maxNets + 1) × (length (now codes) ≤ length (now next)) ⌝ }
-    ensures { λ _. ⌜ Indexed (now (codes .entry)) (now (starts .exit)) (now (heads .exit)) (now (next .exit)) ⌝ }
+    ensures { λ _. ⌜ Indexed (now (codes .entry)) (now (marks .entry)) (now (starts .exit)) (now (heads .exit)) (now (next .exit)) ⌝ }
 {
-    list_starts(codes, starts);
-    list_ends(codes, starts);
+    list_clauses(codes, marks, starts);
     fill(heads, 0);
     chain_places(codes, heads, next);
 }

@@ -1,6 +1,7 @@
 // The part of a row that a round has to go over: the clauses of which a lead has changed, and those that are due for the leads of one.
 
 ghost use mathlib.Core.Path.{_≡_};
+ghost use mathlib.Core.Logic.{_≢_};
 ghost use Prim.Native.Nat.{ℕ, _+_, _*_, _≤_, _<_};
 ghost use lib.ListN.{length, getD, take};
 ghost use Rattle.clauses.specs.Code.{net};
@@ -9,7 +10,8 @@ ghost use Rattle.gates.specs.Found.{clauseAt, Starts};
 ghost use Rattle.passes.specs.Passing.{leadAt};
 ghost use Rattle.passes.specs.Xors.{LeadRow};
 ghost use Rattle.passes.specs.Parts.{Ended, Part, HoldsActive};
-ghost use Rattle.passes.specs.Taking.{Indexed, Keeps, asSelect, SeenTouched, SeesNet, SeesMoved, Due, SeesDue, SeesTouched, HasMark, Sees, Laid, Taken, Took};
+ghost use Rattle.passes.specs.Indexing.{Listed, Indexed, startAt};
+ghost use Rattle.passes.specs.Taking.{Keeps, asSelect, SeesPlace, SeesNet, SeesMoved, Due, SeesDue, SeesTouched, HasMark, Sees, Laid, Taken, Took};
 use crate::touched::is_due;
 use crate::touched::next_moved;
 use crate::touched::next_touched;
@@ -79,12 +81,12 @@ fn take_clause(
     n + k
 }
 
-// Takes the clause of which a lead has changed from b up to its ending at e, and touches its leads, unless it is seen.
+// Takes the clause of place q, whose lead has changed, and touches its leads.
 fn take_changed(
     codes: &[u32],
     marks: &[u8],
-    b: usize,
-    e: usize,
+    starts: &[u32],
+    q: usize,
     old: &[u32],
     touched: &mut [u8],
     seen: &mut [u8],
@@ -92,18 +94,18 @@ fn take_changed(
     tags: &mut [u8],
     n: usize,
 ) -> usize
-    requires { ⌜ Starts (now codes) b × (e ≡ b + length (clauseAt (now codes) b)) × (e < length (now codes)) ⌝ }
+    requires { ⌜ Listed (now codes) (now marks) (now starts) × Ended (now codes) × (q < length (now codes)) × (getD (now codes) q 0 ≢ 0) ⌝ }
     requires { ⌜ (length (now marks) ≡ length (now codes)) × (length (now codes) ≤ length (now seen)) × (length (now seen) ≤ length (now part)) × (length (now seen) ≤ length (now tags)) ⌝ }
-    requires { ⌜ ((q : ℕ) → asSelect (net (leadAt (now codes) (now old) q)) < length (now touched)) ⌝ }
-    requires { ⌜ Taken (now codes) (now marks) (now seen) (now part) (now tags) n × SeenTouched (now codes) (now marks) (now old) (now seen) (now touched) ⌝ }
+    requires { ⌜ ((p : ℕ) → asSelect (net (leadAt (now codes) (now old) p)) < length (now touched)) ⌝ }
+    requires { ⌜ Taken (now codes) (now marks) (now seen) (now part) (now tags) n ⌝ }
     ensures taken { λ r. ⌜ Taken (now (codes .entry)) (now (marks .entry)) (now (seen .exit)) (now (part .exit)) (now (tags .exit)) r ⌝ }
-    ensures touched { λ _. ⌜ SeenTouched (now (codes .entry)) (now (marks .entry)) (now (old .entry)) (now (seen .exit)) (now (touched .exit)) ⌝ }
-    ensures sees { λ _. ⌜ Keeps (now (seen .entry)) (now (seen .exit)) × HasMark (now (seen .exit)) b ⌝ }
+    ensures keeps { λ _. ⌜ Keeps (now (seen .entry)) (now (seen .exit)) × Keeps (now (touched .entry)) (now (touched .exit)) ⌝ }
+    ensures sees { λ _. ⌜ SeesPlace (now (codes .entry)) (now (starts .entry)) (now (old .entry)) (now (seen .exit)) (now (touched .exit)) q ⌝ }
 {
-    if seen[b] != 0 {
-        return n;
-    }
-    touch(codes, marks, b, e, old, touched);
+    let s = starts[q] as usize;
+    let b = s / 4;
+    let e = starts[MAX_ENTRIES + b] as usize;
+    touch(codes, starts, b, e, s % 2 == 1, old, touched);
     take_clause(codes, marks, b, e, seen, part, tags, n)
 }
 
@@ -122,22 +124,30 @@ fn take_changed_chain(
     tags: &mut [u8],
     m: usize,
 ) -> usize
-    requires { ⌜ Indexed (now codes) (now starts) (now heads) (now next) × Ended (now codes) × (0 < w) × (w < length (now heads)) ⌝ }
+    requires { ⌜ Indexed (now codes) (now marks) (now starts) (now heads) (now next) × Ended (now codes) × (0 < w) × (w < length (now heads)) ⌝ }
     requires { ⌜ (length (now marks) ≡ length (now codes)) × (length (now codes) ≤ length (now seen)) × (length (now seen) ≤ length (now part)) × (length (now seen) ≤ length (now tags)) ⌝ }
-    requires { ⌜ ((q : ℕ) → asSelect (net (leadAt (now codes) (now old) q)) < length (now touched)) ⌝ }
-    requires { ⌜ Taken (now codes) (now marks) (now seen) (now part) (now tags) m × SeenTouched (now codes) (now marks) (now old) (now seen) (now touched) ⌝ }
+    requires { ⌜ ((p : ℕ) → asSelect (net (leadAt (now codes) (now old) p)) < length (now touched)) ⌝ }
+    requires { ⌜ Taken (now codes) (now marks) (now seen) (now part) (now tags) m ⌝ }
     ensures taken { λ r. ⌜ Taken (now (codes .entry)) (now (marks .entry)) (now (seen .exit)) (now (part .exit)) (now (tags .exit)) r ⌝ }
-    ensures touched { λ _. ⌜ SeenTouched (now (codes .entry)) (now (marks .entry)) (now (old .entry)) (now (seen .exit)) (now (touched .exit)) ⌝ }
-    ensures sees { λ _. ⌜ Keeps (now (seen .entry)) (now (seen .exit)) × SeesNet (now (codes .entry)) (now (starts .entry)) w (now (seen .exit)) ⌝ }
+    ensures keeps { λ _. ⌜ Keeps (now (seen .entry)) (now (seen .exit)) × Keeps (now (touched .entry)) (now (touched .exit)) ⌝ }
+    ensures sees { λ _. ⌜ SeesNet (now (codes .entry)) (now (starts .entry)) (now (old .entry)) w (now (seen .exit)) (now (touched .exit)) ⌝ }
 {
     let mut n = m;
     let mut k = heads[w] as usize;
     while 0 < k {
-        let q = k - 1;
-        let b = starts[q] as usize;
-        let e = starts[MAX_ENTRIES + b] as usize;
-        n = take_changed(codes, marks, b, e, old, touched, seen, part, tags, n);
-        k = next[q] as usize;
+        n = take_changed(
+            codes,
+            marks,
+            starts,
+            k - 1,
+            old,
+            touched,
+            seen,
+            part,
+            tags,
+            n,
+        );
+        k = next[k - 1] as usize;
     }
     n
 }
@@ -156,14 +166,13 @@ fn take_all_changed(
     part: &mut [u32],
     tags: &mut [u8],
 ) -> usize
-    requires { ⌜ Indexed (now codes) (now starts) (now heads) (now next) × Ended (now codes) ⌝ }
+    requires { ⌜ Indexed (now codes) (now marks) (now starts) (now heads) (now next) × Ended (now codes) ⌝ }
     requires { ⌜ (length (now older) ≡ length (now old)) × (length (now old) ≤ maxNets) ⌝ }
     requires { ⌜ (length (now marks) ≡ length (now codes)) × (length (now codes) ≤ length (now seen)) × (length (now seen) ≤ length (now part)) × (length (now seen) ≤ length (now tags)) ⌝ }
-    requires { ⌜ ((q : ℕ) → asSelect (net (leadAt (now codes) (now old) q)) < length (now touched)) ⌝ }
-    requires { ⌜ Taken (now codes) (now marks) (now seen) (now part) (now tags) 0 × SeenTouched (now codes) (now marks) (now old) (now seen) (now touched) ⌝ }
+    requires { ⌜ ((p : ℕ) → asSelect (net (leadAt (now codes) (now old) p)) < length (now touched)) ⌝ }
+    requires { ⌜ Taken (now codes) (now marks) (now seen) (now part) (now tags) 0 ⌝ }
     ensures taken { λ r. ⌜ Taken (now (codes .entry)) (now (marks .entry)) (now (seen .exit)) (now (part .exit)) (now (tags .exit)) r ⌝ }
-    ensures touched { λ _. ⌜ SeenTouched (now (codes .entry)) (now (marks .entry)) (now (old .entry)) (now (seen .exit)) (now (touched .exit)) ⌝ }
-    ensures sees { λ _. ⌜ SeesMoved (now (codes .entry)) (now (starts .entry)) (now (older .entry)) (now (old .entry)) (length (now (old .entry))) (now (seen .exit)) ⌝ }
+    ensures sees { λ _. ⌜ SeesMoved (now (codes .entry)) (now (starts .entry)) (now (older .entry)) (now (old .entry)) (length (now (old .entry))) (now (seen .exit)) (now (touched .exit)) ⌝ }
 {
     let mut n = 0;
     let mut w = next_moved(older, old, 0);
@@ -187,12 +196,12 @@ fn take_all_changed(
     n
 }
 
-// Takes the clause from b up to its ending at e, if it is due and not seen.
+// Takes the clause of place q, whose lead is touched, if it is due and not seen.
 fn take_due(
     codes: &[u32],
     marks: &[u8],
-    b: usize,
-    e: usize,
+    starts: &[u32],
+    q: usize,
     old: &[u32],
     touched: &[u8],
     seen: &mut [u8],
@@ -200,17 +209,23 @@ fn take_due(
     tags: &mut [u8],
     n: usize,
 ) -> usize
-    requires { ⌜ Starts (now codes) b × (e ≡ b + length (clauseAt (now codes) b)) × (e < length (now codes)) ⌝ }
+    requires { ⌜ Listed (now codes) (now marks) (now starts) × Ended (now codes) × (q < length (now codes)) × (getD (now codes) q 0 ≢ 0) ⌝ }
     requires { ⌜ (length (now marks) ≡ length (now codes)) × (length (now codes) ≤ length (now seen)) × (length (now seen) ≤ length (now part)) × (length (now seen) ≤ length (now tags)) ⌝ }
-    requires { ⌜ ((q : ℕ) → asSelect (net (leadAt (now codes) (now old) q)) < length (now touched)) ⌝ }
+    requires { ⌜ ((p : ℕ) → asSelect (net (leadAt (now codes) (now old) p)) < length (now touched)) ⌝ }
     requires { ⌜ Taken (now codes) (now marks) (now seen) (now part) (now tags) n ⌝ }
     ensures taken { λ r. ⌜ Taken (now (codes .entry)) (now (marks .entry)) (now (seen .exit)) (now (part .exit)) (now (tags .exit)) r ⌝ }
-    ensures sees { λ _. ⌜ Keeps (now (seen .entry)) (now (seen .exit)) × (Due (now (codes .entry)) (now (marks .entry)) (now (old .entry)) (now (touched .entry)) b → HasMark (now (seen .exit)) b) ⌝ }
+    ensures sees { λ _. ⌜ Keeps (now (seen .entry)) (now (seen .exit)) × (Due (now (codes .entry)) (now (starts .entry)) (now (old .entry)) (now (touched .entry)) q → HasMark (now (seen .exit)) (startAt (now (starts .entry)) q)) ⌝ }
 {
+    let s = starts[q] as usize;
+    if s % 4 == 0 {
+        return n;
+    }
+    let b = s / 4;
     if seen[b] != 0 {
         return n;
     }
-    if !is_due(codes, marks, b, e, old, touched) {
+    let e = starts[MAX_ENTRIES + b] as usize;
+    if !is_due(codes, starts, q, b, e, old, touched) {
         return n;
     }
     take_clause(codes, marks, b, e, seen, part, tags, n)
@@ -231,21 +246,29 @@ fn take_due_chain(
     tags: &mut [u8],
     m: usize,
 ) -> usize
-    requires { ⌜ Indexed (now codes) (now starts) (now heads) (now next) × Ended (now codes) × (0 < w) × (w < length (now heads)) ⌝ }
+    requires { ⌜ Indexed (now codes) (now marks) (now starts) (now heads) (now next) × Ended (now codes) × (0 < w) × (w < length (now heads)) ⌝ }
     requires { ⌜ (length (now marks) ≡ length (now codes)) × (length (now codes) ≤ length (now seen)) × (length (now seen) ≤ length (now part)) × (length (now seen) ≤ length (now tags)) ⌝ }
-    requires { ⌜ ((q : ℕ) → asSelect (net (leadAt (now codes) (now old) q)) < length (now touched)) ⌝ }
+    requires { ⌜ ((p : ℕ) → asSelect (net (leadAt (now codes) (now old) p)) < length (now touched)) ⌝ }
     requires { ⌜ Taken (now codes) (now marks) (now seen) (now part) (now tags) m ⌝ }
     ensures taken { λ r. ⌜ Taken (now (codes .entry)) (now (marks .entry)) (now (seen .exit)) (now (part .exit)) (now (tags .exit)) r ⌝ }
-    ensures sees { λ _. ⌜ Keeps (now (seen .entry)) (now (seen .exit)) × SeesDue (now (codes .entry)) (now (marks .entry)) (now (starts .entry)) (now (old .entry)) (now (touched .entry)) w (now (seen .exit)) ⌝ }
+    ensures sees { λ _. ⌜ Keeps (now (seen .entry)) (now (seen .exit)) × SeesDue (now (codes .entry)) (now (starts .entry)) (now (old .entry)) (now (touched .entry)) w (now (seen .exit)) ⌝ }
 {
     let mut n = m;
     let mut k = heads[w] as usize;
     while 0 < k {
-        let q = k - 1;
-        let b = starts[q] as usize;
-        let e = starts[MAX_ENTRIES + b] as usize;
-        n = take_due(codes, marks, b, e, old, touched, seen, part, tags, n);
-        k = next[q] as usize;
+        n = take_due(
+            codes,
+            marks,
+            starts,
+            k - 1,
+            old,
+            touched,
+            seen,
+            part,
+            tags,
+            n,
+        );
+        k = next[k - 1] as usize;
     }
     n
 }
@@ -264,12 +287,12 @@ fn take_all_due(
     tags: &mut [u8],
     m: usize,
 ) -> usize
-    requires { ⌜ Indexed (now codes) (now starts) (now heads) (now next) × Ended (now codes) × (length (now old) ≤ maxNets) ⌝ }
+    requires { ⌜ Indexed (now codes) (now marks) (now starts) (now heads) (now next) × Ended (now codes) × (length (now old) ≤ maxNets) ⌝ }
     requires { ⌜ (length (now marks) ≡ length (now codes)) × (length (now codes) ≤ length (now seen)) × (length (now seen) ≤ length (now part)) × (length (now seen) ≤ length (now tags)) ⌝ }
-    requires { ⌜ ((q : ℕ) → asSelect (net (leadAt (now codes) (now old) q)) < length (now touched)) × ((w : ℕ) → net (getD (now old) w 0) < length (now touched)) ⌝ }
+    requires { ⌜ ((p : ℕ) → asSelect (net (leadAt (now codes) (now old) p)) < length (now touched)) × ((w : ℕ) → net (getD (now old) w 0) < length (now touched)) ⌝ }
     requires { ⌜ Taken (now codes) (now marks) (now seen) (now part) (now tags) m ⌝ }
     ensures taken { λ r. ⌜ Taken (now (codes .entry)) (now (marks .entry)) (now (seen .exit)) (now (part .exit)) (now (tags .exit)) r ⌝ }
-    ensures sees { λ _. ⌜ Keeps (now (seen .entry)) (now (seen .exit)) × SeesTouched (now (codes .entry)) (now (marks .entry)) (now (starts .entry)) (now (old .entry)) (now (touched .entry)) (length (now (old .entry))) (now (seen .exit)) ⌝ }
+    ensures sees { λ _. ⌜ Keeps (now (seen .entry)) (now (seen .exit)) × SeesTouched (now (codes .entry)) (now (starts .entry)) (now (old .entry)) (now (touched .entry)) (length (now (old .entry))) (now (seen .exit)) ⌝ }
 {
     let mut n = m;
     let mut w = next_touched(old, touched, 0);
@@ -308,7 +331,7 @@ pub fn take_active(
     tags: &mut [u8],
 ) -> usize
     requires { ⌜ Ended (now codes) × (length (now marks) ≡ length (now codes)) ⌝ }
-    requires { ⌜ Indexed (now codes) (now starts) (now heads) (now next) ⌝ }
+    requires { ⌜ Indexed (now codes) (now marks) (now starts) (now heads) (now next) ⌝ }
     requires { ⌜ ((q : ℕ) → net (getD (now codes) q 0) ≤ length (now old)) × LeadRow (now old) ⌝ }
     requires { ⌜ (length (now older) ≡ length (now old)) × (length (now old) ≤ maxNets) × (2 * maxNets + 2 ≤ length (now touched)) ⌝ }
     requires { ⌜ (length (now codes) ≤ length (now seen)) × (length (now seen) ≤ length (now part)) × (length (now seen) ≤ length (now tags)) ⌝ }

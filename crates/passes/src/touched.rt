@@ -1,24 +1,59 @@
 // The nets whose leads have changed, and the leads that changed clauses have: these are touched, and clauses that have them may be due.
 
 ghost use mathlib.Core.Path.{_≡_};
-ghost use mathlib.Core.Bool.{true};
+ghost use mathlib.Core.Bool.{true, false};
 ghost use Prim.Native.Nat.{ℕ, _+_, _≤_, _<_};
 ghost use lib.ListN.{length, getD};
 ghost use Rattle.clauses.specs.Code.{net};
-ghost use Rattle.gates.specs.Found.{clauseAt, Starts};
+ghost use Rattle.gates.specs.Found.{clauseAt};
 ghost use Rattle.passes.specs.Passing.{leadAt, First};
+ghost use Rattle.passes.specs.Indexing.{startAt, tieAt};
 ghost use Rattle.passes.specs.Taking.{hasMoved, isTouched, HasMark, Keeps, asSelect, TouchedBy, Touched, Due};
 use crate::lead::lead_of;
 
 // Where the entries of the nets as selects begin.
 const SELECTS: usize = 1025;
 
+// Nets of a block that is searched for changes at once.
+const BLOCK: usize = 64;
+
+// Whether the lead of a net from place `from` of the leads up to `to` has changed. The loop has no other end, so that it goes over several at once.
+fn has_moved(older: &[u32], old: &[u32], from: usize, to: usize) -> bool
+    requires { ⌜ (length (now older) ≡ length (now old)) × (to ≤ length (now old)) ⌝ }
+    ensures { λ r. ⌜ (r ≡ false → (w : ℕ) → from ≤ w → w < to → hasMoved (now (older .entry)) (now (old .entry)) w ≡ false) ⌝ }
+{
+    let mut any = false;
+    let mut w = from;
+    while w < to {
+        if older[w] != old[w] {
+            any = true;
+        }
+        w += 1;
+    }
+    any
+}
+
+// A place from `from` of the leads on, before which none has changed: blocks without a change are left behind.
+fn skip_unmoved(older: &[u32], old: &[u32], from: usize) -> usize
+    requires { ⌜ (length (now older) ≡ length (now old)) × (from ≤ length (now old)) ⌝ }
+    ensures { λ r. ⌜ (from ≤ r) × (r ≤ length (now (old .entry))) × ((w : ℕ) → from ≤ w → w < r → hasMoved (now (older .entry)) (now (old .entry)) w ≡ false) ⌝ }
+{
+    let mut w = from;
+    while BLOCK <= old.len() - w {
+        if has_moved(older, old, w, w + BLOCK) {
+            return w;
+        }
+        w += BLOCK;
+    }
+    w
+}
+
 // The first net from place `from` of the leads on whose lead has changed, by its place; the number of nets where there is none.
 pub fn next_moved(older: &[u32], old: &[u32], from: usize) -> usize
     requires { ⌜ (length (now older) ≡ length (now old)) × (from ≤ length (now old)) ⌝ }
     ensures { λ r. ⌜ First (hasMoved (now (older .entry)) (now (old .entry))) from (length (now (old .entry))) r ⌝ }
 {
-    let mut w = from;
+    let mut w = skip_unmoved(older, old, from);
     while w < old.len() {
         if older[w] != old[w] {
             return w;
@@ -28,26 +63,61 @@ pub fn next_moved(older: &[u32], old: &[u32], from: usize) -> usize
     w
 }
 
-// Touches net n, and as a select if the mark is that of one.
-fn touch_net(touched: &mut [u8], n: usize, mark: u8)
+// Touches net n.
+fn touch_net(touched: &mut [u8], n: usize, select: bool)
     requires { ⌜ asSelect n < length (now touched) ⌝ }
-    ensures { λ _. ⌜ Keeps (now (touched .entry)) (now (touched .exit)) × TouchedBy mark (now (touched .exit)) n ⌝ }
+    ensures { λ _. ⌜ Keeps (now (touched .entry)) (now (touched .exit)) × HasMark (now (touched .exit)) n ⌝ }
+    ensures { λ _. ⌜ (select ≡ true → HasMark (now (touched .exit)) (asSelect n)) ⌝ }
 {
     touched[n] = 1;
-    if 2 <= mark {
+    if select {
         touched[SELECTS + n] = 1;
     }
 }
 
+// Touches the lead at place q: as a select if it is one, and else if the tie counts.
+fn touch_place(
+    codes: &[u32],
+    starts: &[u32],
+    q: usize,
+    counts: bool,
+    old: &[u32],
+    touched: &mut [u8],
+)
+    requires { ⌜ (q < length (now codes)) × (q < length (now starts)) ⌝ }
+    requires { ⌜ ((p : ℕ) → asSelect (net (leadAt (now codes) (now old) p)) < length (now touched)) ⌝ }
+    ensures { λ _. ⌜ Keeps (now (touched .entry)) (now (touched .exit)) × TouchedBy counts (tieAt (now (starts .entry)) q) (now (touched .exit)) (net (leadAt (now (codes .entry)) (now (old .entry)) q)) ⌝ }
+{
+    let tie = starts[q] % 4;
+    if tie == 0 {
+        return;
+    }
+    if 2 <= tie {
+        touch_net(touched, lead_net(codes, old, q), true);
+        return;
+    }
+    if counts {
+        touch_net(touched, lead_net(codes, old, q), false);
+    }
+}
+
 // Touches the leads from place b up to e.
-pub fn touch(codes: &[u32], marks: &[u8], b: usize, e: usize, old: &[u32], touched: &mut [u8])
-    requires { ⌜ (e ≤ length (now codes)) × (length (now marks) ≡ length (now codes)) ⌝ }
-    requires { ⌜ ((q : ℕ) → asSelect (net (leadAt (now codes) (now old) q)) < length (now touched)) ⌝ }
-    ensures { λ _. ⌜ Keeps (now (touched .entry)) (now (touched .exit)) × Touched (now (codes .entry)) (now (marks .entry)) (now (old .entry)) (now (touched .exit)) b e ⌝ }
+pub fn touch(
+    codes: &[u32],
+    starts: &[u32],
+    b: usize,
+    e: usize,
+    counts: bool,
+    old: &[u32],
+    touched: &mut [u8],
+)
+    requires { ⌜ (e ≤ length (now codes)) × (e ≤ length (now starts)) ⌝ }
+    requires { ⌜ ((p : ℕ) → asSelect (net (leadAt (now codes) (now old) p)) < length (now touched)) ⌝ }
+    ensures { λ _. ⌜ Keeps (now (touched .entry)) (now (touched .exit)) × Touched (now (codes .entry)) (now (starts .entry)) (now (old .entry)) counts (now (touched .exit)) b e ⌝ }
 {
     let mut q = b;
     while q < e {
-        touch_net(touched, lead_net(codes, old, q), marks[q]);
+        touch_place(codes, starts, q, counts, old, touched);
         q += 1;
     }
 }
@@ -113,54 +183,38 @@ fn first_touched(
     q
 }
 
-// Whether place q holds a select's literal, and its lead is touched as that of a select.
-fn is_select_touched(codes: &[u32], marks: &[u8], q: usize, old: &[u32], touched: &[u8]) -> bool
-    requires { ⌜ (q < length (now codes)) × (length (now marks) ≡ length (now codes)) ⌝ }
-    requires { ⌜ ((p : ℕ) → asSelect (net (leadAt (now codes) (now old) p)) < length (now touched)) ⌝ }
-    ensures { λ r. ⌜ (2 ≤ getD (now (marks .entry)) q 0 → HasMark (now (touched .entry)) (asSelect (net (leadAt (now (codes .entry)) (now (old .entry)) q))) → r ≡ true) ⌝ }
+// Whether place q is that of a select, and net n touched as one.
+fn is_select_touched(starts: &[u32], q: usize, n: usize, touched: &[u8]) -> bool
+    requires { ⌜ (q < length (now starts)) × (asSelect n < length (now touched)) ⌝ }
+    ensures { λ r. ⌜ (2 ≤ tieAt (now (starts .entry)) q → HasMark (now (touched .entry)) (asSelect n) → r ≡ true) ⌝ }
 {
-    if marks[q] < 2 {
+    if starts[q] % 4 < 2 {
         return false;
     }
-    touched[SELECTS + lead_net(codes, old, q)] != 0
+    touched[SELECTS + n] != 0
 }
 
-// Whether there is such a place from b up to e.
-fn has_touched_select(
+// Whether the clause from b up to its ending at e has to be taken for place q, whose lead is touched.
+pub fn is_due(
     codes: &[u32],
-    marks: &[u8],
+    starts: &[u32],
+    q: usize,
     b: usize,
     e: usize,
     old: &[u32],
     touched: &[u8],
 ) -> bool
-    requires { ⌜ (e ≤ length (now codes)) × (length (now marks) ≡ length (now codes)) ⌝ }
+    requires { ⌜ (q < length (now codes)) × (q < length (now starts)) × (b ≡ startAt (now starts) q) ⌝ }
+    requires { ⌜ (e ≡ b + length (clauseAt (now codes) b)) × (e ≤ length (now codes)) ⌝ }
     requires { ⌜ ((p : ℕ) → asSelect (net (leadAt (now codes) (now old) p)) < length (now touched)) ⌝ }
-    ensures { λ r. ⌜ ((q : ℕ) → b ≤ q → q < e → 2 ≤ getD (now (marks .entry)) q 0 → HasMark (now (touched .entry)) (asSelect (net (leadAt (now (codes .entry)) (now (old .entry)) q))) → r ≡ true) ⌝ }
+    ensures { λ r. ⌜ (Due (now (codes .entry)) (now (starts .entry)) (now (old .entry)) (now (touched .entry)) q → r ≡ true) ⌝ }
 {
-    let mut q = b;
-    while q < e {
-        if is_select_touched(codes, marks, q, old, touched) {
-            return true;
-        }
-        q += 1;
-    }
-    false
-}
-
-// Whether the clause from b up to its ending at e has to be taken, if one of its leads is touched.
-pub fn is_due(codes: &[u32], marks: &[u8], b: usize, e: usize, old: &[u32], touched: &[u8]) -> bool
-    requires { ⌜ Starts (now codes) b × (e ≡ b + length (clauseAt (now codes) b)) × (e < length (now codes)) × (length (now marks) ≡ length (now codes)) ⌝ }
-    requires { ⌜ ((q : ℕ) → asSelect (net (leadAt (now codes) (now old) q)) < length (now touched)) ⌝ }
-    ensures { λ r. ⌜ (Due (now (codes .entry)) (now (marks .entry)) (now (old .entry)) (now (touched .entry)) b → r ≡ true) ⌝ }
-{
-    if has_touched_select(codes, marks, b, e, old, touched) {
+    let n = lead_net(codes, old, q);
+    if is_select_touched(starts, q, n, touched) {
         return true;
     }
-    let q = first_touched(codes, b, e, old, touched, 0);
-    if q == e {
+    if starts[q] % 2 == 0 {
         return false;
     }
-    let n = lead_net(codes, old, q);
-    first_touched(codes, q + 1, e, old, touched, n) < e
+    first_touched(codes, b, e, old, touched, n) < e
 }

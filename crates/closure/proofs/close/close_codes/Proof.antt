@@ -23,7 +23,7 @@ slice-aggregate-index-row-3 : tie.Need-slice-aggregate-index-row-3
 slice-aggregate-index-row-3 c = search needs
 
 index-row-requires : tie.Need-index-row-requires
-index-row-requires c κs = let s = c .before .before .before .before .before .before .before .before in ((s .pre .1 .1 .0 .1, λ q. omega (arith, found-nets (s .pre .0) (s .pre .1 .0) q, s .pre .1 .1 .0 .0)), (refl, refl, s .pre .1 .1 .0 .1))
+index-row-requires c κs = let s = c .before .before .before .before .before .before .before .before in ((s .pre .0 .ended, s .pre .0 .size), ((s .pre .1 .1 .0 .1, λ q. omega (arith, found-nets (s .pre .0) (s .pre .1 .0) q, s .pre .1 .1 .0 .0)), (refl, refl, s .pre .1 .1 .0 .1)))
 
 first-leads-requires : tie.Need-first-leads-requires
 first-leads-requires c κs = c .before .before .before .before .before .before .before .before .before .before .before .before .before .pre .1 .1 .0 .0

@@ -4,7 +4,7 @@ use mathlib.Core.Path.{_≡_, refl, _∙_, ap}
 use Prim.Native.Nat.{ℕ, _-_, _≤_}
 use native.Mathlib.Omega.{arith}
 use lib.ListN.{length, length-replicate}
-use Rattle.passes.specs.Taking.{netAt}
+use Rattle.passes.specs.Indexing.{netAt}
 use Rattle.passes.proofs.Chains.{chain-none}
 use Rattle.passes.specs.Sides.{Chained}
 use borrow.Author.Needs.{needs}

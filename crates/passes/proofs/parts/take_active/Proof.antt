@@ -4,7 +4,7 @@ use mathlib.Core.Path.{_∙_}
 use native.Mathlib.Omega.{arith}
 use lib.ListN.{length, getD}
 use Rattle.passes.proofs.MarkCounts.{count-fits}
-use Rattle.passes.proofs.Taking.{none-touched, net-entry, active-seen}
+use Rattle.passes.proofs.Taking.{net-entry, active-seen}
 use Rattle.passes.proofs.Appending.{taken-none, holds-active}
 use borrow.Author.Needs.{needs}
 use Rattle.passes.proofs.parts.take_active.Statement.{statement}
@@ -25,7 +25,7 @@ take-all-changed-requires c κs =
         (p .1 .1 .1 .0 .0, p .1 .1 .1 .0 .1),
         (
           (p .0 .1, omega (arith, c .before .before .before .before .before .before .clear2 .kept .0), omega (arith, c .before .before .before .before .before .before .clear2 .kept .0), omega (arith, c .before .before .before .before .before .before .clear2 .kept .0)),
-          (λ q. omega (arith, p .1 .1 .0 .1 .low (getD (a .codes .now) q 0), p .1 .1 .0 .0 q, c .before .before .before .before .before .before .before .before .before .before .clear .kept .0), (taken-none _ _ (length (a .seen .now)) _ _ _ (c .before .before .before .before .before .before .clear2 .ensures), none-touched (a .codes .now) (a .marks .now) (a .old .now) _ (c .before .before .before .before .before .before .before .before .before .before .clear .last .0) (length (a .seen .now)) (c .before .before .before .before .before .before .clear2 .ensures))),
+          (λ q. omega (arith, p .1 .1 .0 .1 .low (getD (a .codes .now) q 0), p .1 .1 .0 .0 q, c .before .before .before .before .before .before .before .before .before .before .clear .kept .0), taken-none _ _ (length (a .seen .now)) _ _ _ (c .before .before .before .before .before .before .clear2 .ensures)),
         ),
       ),
     )
@@ -64,7 +64,7 @@ returns c =
       (
         t .is-part,
         holds-active _ _ _ _ _ _ _ _ t
-            (active-seen _ _ _ _ _ _ _ (p .1 .0) (p .1 .1 .0 .0) (p .1 .1 .1 .0 .0) (p .1 .1 .0 .1) (x .last .1 .1 .1 .1 .1 .1 .1 .0) (x .last .1 .1 .1 .1 .1 .1 .1 .1 .0) (x .ensures .1 .1) (x .ensures .1 .0) (y .last .1 .1 .1 .1 .1 .1 .1 .0) (y .ensures .1 .0) (y .ensures .1 .1)),
+            (active-seen _ _ _ _ _ (p .1 .0 .listed) (p .1 .1 .0 .0) (p .1 .1 .1 .0 .0) (p .1 .1 .0 .1) (x .last .1 .1 .1 .1 .1 .1 .1 .1 .0) (x .last .1 .1 .1 .1 .1 .1 .1 .0) (x .ensures .1) (y .last .1 .1 .1 .1 .1 .1 .1 .0) (y .ensures .1 .0) (y .ensures .1 .1)),
       ),
     )
 

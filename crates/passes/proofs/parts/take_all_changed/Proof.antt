@@ -4,14 +4,16 @@ use mathlib.Core.Path.{_≡_, refl}
 use Prim.Native.Nat.{_+_, _-_, _≤_}
 use native.Mathlib.Omega.{arith}
 use lib.ListN.{length}
-use Rattle.passes.specs.Taking.{hasMoved, SeenTouched, SeesNet, SeesMoved, Taken}
-use Rattle.passes.proofs.Taking.{nets-first, nets-more}
+use Rattle.passes.specs.Taking.{hasMoved, SeesNet, SeesMoved, Taken}
+use Rattle.passes.proofs.Taking.{place-keeps, nets-first, nets-more}
 use borrow.Author.Needs.{needs}
 use Rattle.passes.proofs.parts.take_all_changed.Statement.{statement}
 use Rattle.passes.proofs.parts.take_all_changed.Tie as tie
 
 abbrev Inv-loop : tie.InvT-loop
-Inv-loop codes marks starts heads next older old touched₀ seen₀ part₀ tags₀ n₀ w₀ touched seen part tags n w = SeesMoved codes starts older old w seen × Taken codes marks seen part tags n × SeenTouched codes marks old seen touched × (length touched ≡ length touched₀) × (length seen ≡ length seen₀) × (length part ≡ length part₀) × (length tags ≡ length tags₀) × (w ≤ length old)
+Inv-loop codes marks starts heads next older old touched₀ seen₀ part₀ tags₀ n₀ w₀ touched seen part tags n w =
+    SeesMoved codes starts older old w seen touched × Taken codes marks seen part tags n × (length touched ≡ length touched₀) × (length seen ≡ length seen₀)
+    × (length part ≡ length part₀) × (length tags ≡ length tags₀) × (w ≤ length old)
 
 abbrev μ-loop : tie.MeasureT-loop
 μ-loop codes marks starts heads next older old touched₀ seen₀ part₀ tags₀ n₀ w₀ touched seen part tags n w = length old - w
@@ -24,7 +26,7 @@ loop-holds c =
     let a = c .before .before .before .before .before .before .before .before .before .before .before .before .args in
     let p = c .before .before .before .before .before .before .before .before .before .before .before .before .pre in
     let f = c .next-moved .ensures in
-    (nets-first (hasMoved (a .older .now) (a .old .now)) (λ x. SeesNet (a .codes .now) (a .starts .now) (x + 1) (a .seen .now)) _ _ f, p .1 .1 .1 .1 .0, p .1 .1 .1 .1 .1, refl, refl, refl, refl, f .high)
+    (nets-first (hasMoved (a .older .now) (a .old .now)) (λ x. SeesNet (a .codes .now) (a .starts .now) (a .old .now) (x + 1) (a .seen .now) (a .touched .now)) _ _ f, p .1 .1 .1 .1, refl, refl, refl, refl, f .high)
 
 add-take-changed-chain : tie.Need-add-take-changed-chain Inv-loop μ-loop
 add-take-changed-chain c = search needs
@@ -33,7 +35,7 @@ take-changed-chain-requires : tie.Need-take-changed-chain-requires Inv-loop μ-l
 take-changed-chain-requires c κs =
     let p = c .before .before .before .before .before .before .before .before .before .before .before .before .before .before .before .before .before .before .pre in
     let i = c .before .before .before .before .before .loop .inv in
-    ((p .0 .0, p .0 .1, omega arith, omega (arith, p .0 .0 .head-room)), ((p .1 .1 .0 .0, omega arith, omega arith, omega arith), (λ q. omega (arith, p .1 .1 .1 .0 q), (i .1, i .2))))
+    ((p .0 .0, p .0 .1, omega arith, omega (arith, p .0 .0 .head-room)), ((p .1 .1 .0 .0, omega arith, omega arith, omega arith), (λ q. omega (arith, p .1 .1 .1 .0 q, i .2), i .1)))
 
 add-next-moved : tie.Need-add-next-moved Inv-loop μ-loop
 add-next-moved c = omega (arith, c .before .before .before .before .before .before .before .before .before .before .before .before .before .loop-test .taken, c .before .before .before .before .before .before .before .before .before .before .before .before .before .before .before .before .before .before .before .before .before .before .before .before .before .before .before .pre .1 .0 .1)
@@ -50,10 +52,12 @@ loop-again c =
     let l = c .before .before .before .before .before .before .before .before .before .before .before .before .before .before .before .loop in
     let y = c .before .before .before .before .before .before .before .before .before .take-changed-chain in
     let f = c .next-moved2 .ensures in
-    let seen = y .last .1 .1 .1 .1 .1 .1 .1 .1 .0 in (
-      nets-more (hasMoved (a .older .now) (a .old .now)) (λ x. SeesNet (a .codes .now) (a .starts .now) (x + 1) (l .seen)) (λ x. SeesNet (a .codes .now) (a .starts .now) (x + 1) seen) (l .w) _ _ (λ x s q m e. y .ensures .1 .1 .0 _ (s q m e)) (l .inv .0) (y .ensures .1 .1 .1) f,
+    let touched = y .last .1 .1 .1 .1 .1 .1 .1 .0 in
+    let seen = y .last .1 .1 .1 .1 .1 .1 .1 .1 .0 in
+    let keeps = y .ensures .1 .0 in (
+      nets-more (hasMoved (a .older .now) (a .old .now)) (λ x. SeesNet (a .codes .now) (a .starts .now) (a .old .now) (x + 1) (l .seen) (l .touched))
+          (λ x. SeesNet (a .codes .now) (a .starts .now) (a .old .now) (x + 1) seen touched) (l .w) _ _ (λ x s q m e. place-keeps (keeps .0) (keeps .1) (s q m e)) (l .inv .0) (y .ensures .1 .1) f,
       y .ensures .0,
-      y .ensures .1 .0,
       omega arith,
       omega arith,
       omega arith,
@@ -77,7 +81,7 @@ returns : tie.Need-returns Inv-loop μ-loop
 returns c =
     let l = c .before .loop in
     let e : l .w ≡ length (c .before .before .before .before .before .before .before .before .before .before .before .before .before .before .args .old .now) = omega arith in
-    (l .inv .1, (l .inv .2, rw (← e) (l .inv .0)))
+    (l .inv .1, rw (← e) (l .inv .0))
 
 pub take-all-changed-spec : {M : Type 1} → statement M
 take-all-changed-spec =

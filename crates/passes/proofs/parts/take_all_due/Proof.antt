@@ -12,20 +12,23 @@ use Rattle.passes.proofs.parts.take_all_due.Statement.{statement}
 use Rattle.passes.proofs.parts.take_all_due.Tie as tie
 
 abbrev Inv-loop : tie.InvT-loop
-Inv-loop codes marks starts heads next old touched seen₀ part₀ tags₀ m n₀ w₀ seen part tags n w = SeesTouched codes marks starts old touched w seen × Keeps seen₀ seen × Taken codes marks seen part tags n × (length seen ≡ length seen₀) × (length part ≡ length part₀) × (length tags ≡ length tags₀) × (w ≤ length old)
+Inv-loop codes marks starts heads next old touched seen₀ part₀ tags₀ m n₀ w₀ seen part tags n w =
+    SeesTouched codes starts old touched w seen × Keeps seen₀ seen × Taken codes marks seen part tags n × (length seen ≡ length seen₀) × (length part ≡ length part₀)
+    × (length tags ≡ length tags₀) × (w ≤ length old)
 
 abbrev μ-loop : tie.MeasureT-loop
 μ-loop codes marks starts heads next old touched seen₀ part₀ tags₀ m n₀ w₀ seen part tags n w = length old - w
 
 next-touched-requires : tie.Need-next-touched-requires Inv-loop μ-loop
-next-touched-requires c κs = (omega arith, c .before .before .before .before .before .before .before .before .before .before .pre .1 .1 .0 .1)
+next-touched-requires c κs =
+    (omega arith, c .before .before .before .before .before .before .before .before .before .before .pre .1 .1 .0 .1)
 
 loop-holds : tie.Need-loop-holds Inv-loop μ-loop
 loop-holds c =
     let a = c .before .before .before .before .before .before .before .before .before .before .before .args in
     let p = c .before .before .before .before .before .before .before .before .before .before .before .pre in
     let f = c .next-touched .ensures in
-    (nets-first (λ w. isTouched (a .touched .now) 0 (net (getD (a .old .now) w 0))) (λ x. SeesDue (a .codes .now) (a .marks .now) (a .starts .now) (a .old .now) (a .touched .now) (x + 1) (a .seen .now)) _ _ f, λ x h. h, p .1 .1 .1, refl, refl, refl, f .high)
+    (nets-first (λ w. isTouched (a .touched .now) 0 (net (getD (a .old .now) w 0))) (λ x. SeesDue (a .codes .now) (a .starts .now) (a .old .now) (a .touched .now) (x + 1) (a .seen .now)) _ _ f, λ x h. h, p .1 .1 .1, refl, refl, refl, f .high)
 
 add-take-due-chain : tie.Need-add-take-due-chain Inv-loop μ-loop
 add-take-due-chain c = search needs
@@ -40,7 +43,8 @@ add-next-touched : tie.Need-add-next-touched Inv-loop μ-loop
 add-next-touched c = search needs
 
 next-touched-requires-2 : tie.Need-next-touched-requires-2 Inv-loop μ-loop
-next-touched-requires-2 c κs = (omega arith, c .before .before .before .before .before .before .before .before .before .before .before .before .before .before .before .before .before .before .before .before .before .before .before .pre .1 .1 .0 .1)
+next-touched-requires-2 c κs =
+    (omega arith, c .before .before .before .before .before .before .before .before .before .before .before .before .before .before .before .before .before .before .before .before .before .before .before .pre .1 .1 .0 .1)
 
 loop-less : tie.Need-loop-less Inv-loop μ-loop
 loop-less c = omega (arith, c .next-touched2 .ensures .low)
@@ -52,7 +56,8 @@ loop-again c =
     let y = c .before .before .before .before .before .before .before .take-due-chain in
     let f = c .next-touched2 .ensures in
     let seen = y .last .1 .1 .1 .1 .1 .1 .1 .1 .0 in (
-      nets-more (λ w. isTouched (a .touched .now) 0 (net (getD (a .old .now) w 0))) (λ x. SeesDue (a .codes .now) (a .marks .now) (a .starts .now) (a .old .now) (a .touched .now) (x + 1) (l .seen)) (λ x. SeesDue (a .codes .now) (a .marks .now) (a .starts .now) (a .old .now) (a .touched .now) (x + 1) seen) (l .w) _ _ (λ x s q m e d. y .ensures .1 .0 _ (s q m e d)) (l .inv .0) (y .ensures .1 .1) f,
+      nets-more (λ w. isTouched (a .touched .now) 0 (net (getD (a .old .now) w 0))) (λ x. SeesDue (a .codes .now) (a .starts .now) (a .old .now) (a .touched .now) (x + 1) (l .seen))
+          (λ x. SeesDue (a .codes .now) (a .starts .now) (a .old .now) (a .touched .now) (x + 1) seen) (l .w) _ _ (λ x s q m e d. y .ensures .1 .0 _ (s q m e d)) (l .inv .0) (y .ensures .1 .1) f,
       λ x m. y .ensures .1 .0 x (l .inv .1 x m),
       y .ensures .0,
       omega arith,
@@ -71,10 +76,7 @@ same-length-3 : tie.Need-same-length-3 Inv-loop μ-loop
 same-length-3 c = search needs
 
 returns : tie.Need-returns Inv-loop μ-loop
-returns c =
-    let l = c .before .loop in
-    let e : l .w ≡ length (c .before .before .before .before .before .before .before .before .before .before .before .before .before .args .old .now) = omega arith in
-    (l .inv .2, (l .inv .1, rw (← e) (l .inv .0)))
+returns c = let i = c .before .loop .inv in (i .2, (i .1, λ x h. i .0 x (omega (arith, c .loop-test .left))))
 
 pub take-all-due-spec : {M : Type 1} → statement M
 take-all-due-spec =

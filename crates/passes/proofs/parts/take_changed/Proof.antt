@@ -1,24 +1,53 @@
 -- `passes::parts::take_changed` meets its contract.
 -- Assumes nothing.
-use mathlib.Core.Path.{subst}
+use Prim.Native.Nat.{_+_}
 use native.Mathlib.Omega.{arith}
-use Rattle.passes.specs.Taking.{Touched}
-use Rattle.passes.proofs.Taking.{touched-took}
+use Rattle.passes.specs.Indexing.{startAt}
+use Rattle.passes.proofs.Indexing.{start-of, end-of}
+use Rattle.passes.proofs.Taking.{place-seen}
 use borrow.Author.Needs.{needs}
 use Rattle.passes.proofs.parts.take_changed.Statement.{statement}
 use Rattle.passes.proofs.parts.take_changed.Tie as tie
 
-slice-read-if1 : tie.Need-slice-read-if1
-slice-read-if1 c = search needs
+mul-s : tie.Need-mul-s
+mul-s c = search needs
 
-returns : tie.Need-returns
-returns c = (c .before .before .before .before .before .before .before .before .before .pre .1 .1 .1 .0, (c .before .before .before .before .before .before .before .before .before .pre .1 .1 .1 .1, (λ w h. h, c .if1 .taken)))
+shared-slice-read-s : tie.Need-shared-slice-read-s
+shared-slice-read-s c = search needs
+
+cast-s : tie.Need-cast-s
+cast-s c =
+    omega (arith, c .shared-slice-known5 .given (c .before .before .before .before .before .before .before .before .before .args .q))
+
+add-e : tie.Need-add-e
+add-e c =
+    omega (arith, c .shared-slice-known5 .given (c .before .before .before .before .before .before .before .before .before .args .q))
+
+mul-e : tie.Need-mul-e
+mul-e c =
+    omega (arith, c .shared-slice-known5 .given (c .before .before .before .before .before .before .before .before .before .args .q))
+
+shared-slice-read-e : tie.Need-shared-slice-read-e
+shared-slice-read-e c =
+    omega (arith, start-of _ _ _ (c .before .before .before .before .before .before .before .before .before .before .pre .0 .0) _ (c .before .before .before .before .before .before .before .before .before .before .pre .0 .2) (c .before .before .before .before .before .before .before .before .before .before .pre .0 .3) .start .inside, c .before .before .before .before .before .before .before .before .before .before .pre .0 .0 .room)
+
+cast-e : tie.Need-cast-e
+cast-e c =
+    omega (arith, c .shared-slice-known6 .given (16384 + startAt (c .before .before .before .before .before .before .before .before .before .before .args .starts .now) (c .before .before .before .before .before .before .before .before .before .before .args .q)))
 
 touch-requires : tie.Need-touch-requires
-touch-requires c κs = ((omega arith, c .before .before .before .before .before .before .before .before .before .before .pre .1 .0 .0), c .before .before .before .before .before .before .before .before .before .before .pre .1 .1 .0)
+touch-requires c κs =
+    let p = c .before .before .before .before .before .before .before .before .before .before .before .pre in
+    let e = end-of _ _ _ (p .0 .0) _ (p .0 .2) (p .0 .3) in
+    let l = p .0 .1 _ (start-of _ _ _ (p .0 .0) _ (p .0 .2) (p .0 .3) .start) in
+    ((omega (arith, e, l), omega (arith, e, l, p .0 .0 .room)), p .1 .1 .0)
 
 take-clause-requires : tie.Need-take-clause-requires
-take-clause-requires c κs = (c .before .before .before .before .before .before .before .before .before .before .before .before .before .before .before .before .pre .0, (c .before .before .before .before .before .before .before .before .before .before .before .before .before .before .before .before .pre .1 .0, c .before .before .before .before .before .before .before .before .before .before .before .before .before .before .before .before .pre .1 .1 .1 .0))
+take-clause-requires c κs =
+    let p = c .before .before .before .before .before .before .before .before .before .before .before .before .before .before .before .before .before .pre in
+    let e = end-of _ _ _ (p .0 .0) _ (p .0 .2) (p .0 .3) in
+    let s = start-of _ _ _ (p .0 .0) _ (p .0 .2) (p .0 .3) .start in
+    ((s, e, omega (arith, e, p .0 .1 _ s)), (p .1 .0, p .1 .1 .1))
 
 same-length : tie.Need-same-length
 same-length c = search needs
@@ -32,25 +61,28 @@ same-length-3 c = search needs
 same-length-4 : tie.Need-same-length-4
 same-length-4 c = search needs
 
-returns-2 : tie.Need-returns-2
-returns-2 c =
-    let a = c .before .before .before .before .before .before .before .before .before .before .before .before .before .before .before .before .before .before .before .before .before .before .before .args in
-    let p = c .before .before .before .before .before .before .before .before .before .before .before .before .before .before .before .before .before .before .before .before .before .before .before .pre in
-    let x = c .before .before .before .before .before .before .before .before .before .before .before .before .touch in
-    let y = c .before .before .before .before .before .before .take-clause in
-    let touched = x .last .1 .1 .1 .1 .1 .0 in
-    (y .ensures .0, (touched-took (a .codes .now) (a .marks .now) (a .old .now) (a .seen .now) _ (a .touched .now) touched (a .b) (y .ensures .1) (p .1 .1 .1 .1) (x .ensures .0) (subst (Touched (a .codes .now) (a .marks .now) (a .old .now) touched (a .b)) (p .0 .1) (x .ensures .1)), (y .ensures .1 .keeps, y .ensures .1 .here)))
+returns : tie.Need-returns
+returns c =
+    let p = c .before .before .before .before .before .before .before .before .before .before .before .before .before .before .before .before .before .before .before .before .before .before .before .before .pre in
+    let t = c .before .before .before .before .before .before .before .before .before .before .before .before .touch .ensures in
+    let y = c .before .before .before .before .before .before .take-clause .ensures in
+    (y .0, ((y .1 .keeps, t .0), place-seen _ _ _ _ _ _ _ (end-of _ _ _ (p .0 .0) _ (p .0 .2) (p .0 .3)) (y .1 .here) (t .1)))
 
 pub take-changed-spec : {M : Type 1} → statement M
 take-changed-spec =
     tie.close
     (tie.spec
-    slice-read-if1
-    returns
+    mul-s
+    shared-slice-read-s
+    cast-s
+    add-e
+    mul-e
+    shared-slice-read-e
+    cast-e
     touch-requires
     take-clause-requires
     same-length
     same-length-2
     same-length-3
     same-length-4
-    returns-2)
+    returns)

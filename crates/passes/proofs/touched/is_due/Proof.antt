@@ -1,53 +1,56 @@
 -- `passes::touched::is_due` meets its contract.
 -- Assumes nothing.
-use mathlib.Core.Logic.{⊎-elim}
+use mathlib.Core.Path.{sym, _∙_, subst⁻¹}
 use mathlib.Core.Bool.{true≢false}
-use mathlib.Core.Path.{_∙_, sym}
+use Prim.Native.Nat.{ℕ}
 use native.Mathlib.Omega.{arith}
 use borrow.Author.Tests.{lt-ltb}
-use Rattle.passes.proofs.Taking.{select-found, two-none, two-found}
+use Rattle.passes.specs.Taking.{OtherTouched}
+use Rattle.passes.proofs.Taking.{due-elim, other-found}
 use borrow.Author.Needs.{needs}
 use Rattle.passes.proofs.touched.is_due.Statement.{statement}
 use Rattle.passes.proofs.touched.is_due.Tie as tie
 
-has-touched-select-requires : tie.Need-has-touched-select-requires
-has-touched-select-requires c κs = ((omega arith, c .before .before .before .before .pre .0 .3), c .before .before .before .before .pre .1)
+lead-net-requires : tie.Need-lead-net-requires
+lead-net-requires c κs = search needs
+
+is-select-touched-requires : tie.Need-is-select-touched-requires
+is-select-touched-requires c κs =
+    (c .before .before .before .before .before .pre .0 .1, rw (c .lead-net .ensures) (c .before .before .before .before .before .pre .1 .1 (c .before .before .before .before .before .args .q)))
 
 returns : tie.Need-returns
 returns c = search needs
 
-first-touched-requires : tie.Need-first-touched-requires
-first-touched-requires c κs = ((omega arith, omega arith), λ q. omega (arith, c .before .before .before .before .before .before .pre .1 q))
+mul-if2 : tie.Need-mul-if2
+mul-if2 c = search needs
+
+shared-slice-read-if2 : tie.Need-shared-slice-read-if2
+shared-slice-read-if2 c = search needs
 
 returns-2 : tie.Need-returns-2
 returns-2 c =
-    let p = c .before .before .before .before .before .before .before .before .pre .0 in
-    ⊎-elim (λ h. absurd (true≢false (sym (select-found _ _ _ _ _ _ (p .1) _ (c .before .before .before .has-touched-select .ensures) h) ∙ c .before .before .if1 .left))) (λ t. absurd (two-none _ _ _ _ _ (p .1) _ (c .before .first-touched .ensures) (c .if2 .taken) t))
+    due-elim (λ h m. absurd (true≢false (sym (c .before .before .before .is-select-touched .ensures h (rw (c .before .before .before .before .lead-net .ensures) m)) ∙ c .before .before .if1 .left))) (λ h o. absurd (omega (arith, c .if2 .taken)))
 
-lead-net-requires : tie.Need-lead-net-requires
-lead-net-requires c κs = omega (arith, c .before .first-touched .ensures .high)
-
-add-first-touched : tie.Need-add-first-touched
-add-first-touched c = omega (arith, c .before .before .first-touched .ensures .high, c .before .before .before .before .before .before .before .before .before .good)
-
-first-touched-requires-2 : tie.Need-first-touched-requires-2
-first-touched-requires-2 c κs = ((omega (arith, c .before .before .first-touched .ensures .high), omega arith), λ q. omega (arith, c .before .before .before .before .before .before .before .before .before .pre .1 q))
+first-touched-requires : tie.Need-first-touched-requires
+first-touched-requires c κs =
+    ((omega (arith, c .before .before .before .before .before .before .before .before .before .pre .1 .0), c .before .before .before .before .before .before .before .before .before .pre .1 .0 .1), λ p. omega (arith, c .before .before .before .before .before .before .before .before .before .pre .1 .1 p))
 
 returns-3 : tie.Need-returns-3
 returns-3 c =
-    let p = c .before .before .before .before .before .before .before .before .before .before .pre .0 in
-    ⊎-elim (λ h. absurd (true≢false (sym (select-found _ _ _ _ _ _ (p .1) _ (c .before .before .before .before .before .has-touched-select .ensures) h) ∙ c .before .before .before .before .if1 .left)))
-    (λ t. lt-ltb _ _ (two-found _ _ _ _ _ (p .1) _ _ (c .before .before .before .first-touched .ensures) (c .before .before .if2 .left) (rw (← c .before .lead-net .ensures) (c .first-touched2 .ensures)) t))
+    let a = c .before .before .before .before .before .before .before .before .before .before .args in
+    due-elim (λ h m. absurd (true≢false (sym (c .before .before .before .before .is-select-touched .ensures h (rw (c .before .before .before .before .before .lead-net .ensures) m)) ∙ c .before .before .before .if1 .left)))
+    (λ h o. lt-ltb _ _ (other-found (a .codes .now) (a .old .now) (a .touched .now) (a .b) (a .e) (a .q) _ (c .before .before .before .before .before .before .before .before .before .before .pre .1 .0 .0) (rw (← c .before .before .before .before .before .lead-net .ensures) (c .first-touched .ensures))
+    (subst⁻¹ (λ (x : ℕ). OtherTouched (a .codes .now) (a .old .now) (a .touched .now) x (a .q)) (c .before .before .before .before .before .before .before .before .before .before .pre .0 .2) o)))
 
 pub is-due-spec : {M : Type 1} → statement M
 is-due-spec =
     tie.close
     (tie.spec
-    has-touched-select-requires
-    returns
-    first-touched-requires
-    returns-2
     lead-net-requires
-    add-first-touched
-    first-touched-requires-2
+    is-select-touched-requires
+    returns
+    mul-if2
+    shared-slice-read-if2
+    returns-2
+    first-touched-requires
     returns-3)

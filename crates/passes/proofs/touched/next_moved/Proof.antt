@@ -3,7 +3,7 @@
 use Prim.Native.Nat.{_-_}
 use lib.ListN.{length}
 use Rattle.passes.specs.Taking.{hasMoved}
-use Rattle.passes.proofs.Searches.{Passed, passed-begin, passed-on, first-here, first-none}
+use Rattle.passes.proofs.Searches.{Passed, passed-on, first-here, first-none}
 use Rattle.passes.proofs.Taking.{has-moved, not-moved}
 use borrow.Author.Needs.{needs}
 use Rattle.passes.proofs.touched.next_moved.Statement.{statement}
@@ -15,8 +15,11 @@ Inv-loop older old from w₀ w = Passed (hasMoved older old) from (length old) w
 abbrev μ-loop : tie.MeasureT-loop
 μ-loop older old from w₀ w = length old - w
 
+skip-unmoved-requires : tie.Need-skip-unmoved-requires Inv-loop μ-loop
+skip-unmoved-requires c κs = c .before .before .pre
+
 loop-holds : tie.Need-loop-holds Inv-loop μ-loop
-loop-holds c = passed-begin (c .pre .1)
+loop-holds c = let s = c .skip-unmoved .ensures in (record { low = s .0; each = s .2 }, s .1)
 
 mul-if1 : tie.Need-mul-if1 Inv-loop μ-loop
 mul-if1 c = search needs
@@ -40,7 +43,8 @@ loop-less : tie.Need-loop-less Inv-loop μ-loop
 loop-less c = search needs
 
 loop-again : tie.Need-loop-again Inv-loop μ-loop
-loop-again c = passed-on (c .before .before .before .before .loop .inv) (c .before .before .before .loop-test .taken) (not-moved _ _ _ (c .if1 .left))
+loop-again c =
+    passed-on (c .before .before .before .before .loop .inv) (c .before .before .before .loop-test .taken) (not-moved _ _ _ (c .if1 .left))
 
 returns-2 : tie.Need-returns-2 Inv-loop μ-loop
 returns-2 c = first-none (c .before .loop .inv) (c .loop-test .left)
@@ -51,6 +55,7 @@ next-moved-spec =
     (tie.spec
     Inv-loop
     μ-loop
+    skip-unmoved-requires
     loop-holds
     mul-if1
     shared-slice-read-if1

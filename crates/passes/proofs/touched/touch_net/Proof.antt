@@ -1,5 +1,7 @@
 -- `passes::touched::touch_net` meets its contract.
 -- Assumes nothing.
+use mathlib.Core.Path.{sym, _∙_}
+use mathlib.Core.Bool.{true≢false}
 use native.Mathlib.Omega.{arith}
 use lib.ListN.{length-set}
 use Rattle.passes.proofs.Taking.{touched-plain, touched-select}
@@ -20,13 +22,15 @@ same-length : tie.Need-same-length
 same-length c = search needs
 
 returns : tie.Need-returns
-returns c = touched-select (c .before .args .touched .now) (c .before .args .n) (c .before .args .mark) (c .before .pre)
+returns c =
+    let t = touched-select (c .before .args .touched .now) (c .before .args .n) (c .before .pre) in (t .0, λ s. t .1)
 
 same-length-2 : tie.Need-same-length-2
 same-length-2 c = search needs
 
 returns-2 : tie.Need-returns-2
-returns-2 c = touched-plain (c .before .args .touched .now) (c .before .args .n) (c .before .args .mark) (c .before .pre) (omega arith)
+returns-2 c =
+    (touched-plain (c .before .args .touched .now) (c .before .args .n) (c .before .pre), λ s. absurd (true≢false (sym s ∙ c .if1 .left)))
 
 pub touch-net-spec : {M : Type 1} → statement M
 touch-net-spec =

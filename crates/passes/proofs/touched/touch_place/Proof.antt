@@ -1,0 +1,70 @@
+-- `passes::touched::touch_place` meets its contract.
+-- Assumes nothing.
+use mathlib.Core.Path.{refl, sym, _∙_}
+use mathlib.Core.Bool.{true≢false}
+use native.Mathlib.Omega.{arith}
+use borrow.Author.Needs.{needs}
+use Rattle.passes.proofs.touched.touch_place.Statement.{statement}
+use Rattle.passes.proofs.touched.touch_place.Tie as tie
+
+mul-tie : tie.Need-mul-tie
+mul-tie c = search needs
+
+shared-slice-read-tie : tie.Need-shared-slice-read-tie
+shared-slice-read-tie c = search needs
+
+returns : tie.Need-returns
+returns c =
+    (λ x h. h, record { tied = λ k h. absurd (omega (arith, c .if1 .taken)); select = λ h. absurd (omega (arith, c .if1 .taken)) })
+
+lead-net-requires : tie.Need-lead-net-requires
+lead-net-requires c κs = search needs
+
+touch-net-requires : tie.Need-touch-net-requires
+touch-net-requires c κs =
+    rw (c .lead-net .ensures) (c .before .before .before .before .before .before .before .before .before .pre .1 (c .before .before .before .before .before .before .before .before .before .args .q))
+
+same-length : tie.Need-same-length
+same-length c = search needs
+
+returns-2 : tie.Need-returns-2
+returns-2 c =
+    let y = c .before .before .touch-net in
+    let here = rw (c .before .before .before .lead-net .ensures) at (y .ensures .0 .1) in
+    (y .ensures .0 .0, record { tied = λ k h. here; select = λ h. (here, rw (c .before .before .before .lead-net .ensures) at (y .ensures .1 refl)) })
+
+lead-net-requires-2 : tie.Need-lead-net-requires-2
+lead-net-requires-2 c κs = search needs
+
+touch-net-requires-2 : tie.Need-touch-net-requires-2
+touch-net-requires-2 c κs =
+    rw (c .lead-net2 .ensures) (c .before .before .before .before .before .before .before .before .before .before .pre .1 (c .before .before .before .before .before .before .before .before .before .before .args .q))
+
+same-length-2 : tie.Need-same-length-2
+same-length-2 c = search needs
+
+returns-3 : tie.Need-returns-3
+returns-3 c =
+    let y = c .before .before .touch-net2 in
+    (y .ensures .0 .0, record { tied = λ k h. rw (c .before .before .before .lead-net2 .ensures) at (y .ensures .0 .1); select = λ h. absurd (omega (arith, c .before .before .before .before .before .before .if2 .left)) })
+
+returns-4 : tie.Need-returns-4
+returns-4 c =
+    (λ x h. h, record { tied = λ k h. absurd (true≢false (sym k ∙ c .if3 .left)); select = λ h. absurd (omega (arith, c .before .if2 .left)) })
+
+pub touch-place-spec : {M : Type 1} → statement M
+touch-place-spec =
+    tie.close
+    (tie.spec
+    mul-tie
+    shared-slice-read-tie
+    returns
+    lead-net-requires
+    touch-net-requires
+    same-length
+    returns-2
+    lead-net-requires-2
+    touch-net-requires-2
+    same-length-2
+    returns-3
+    returns-4)
