@@ -19,11 +19,11 @@ pub mod Runs
 pub mod LinesAndWords
 pub mod Digits
 pub mod Words
+pub mod Magnitudes
 -- Reading
 pub mod Headers
 pub mod Bodies
 pub mod Scans
-pub mod Fills
 pub mod ReadingTests
 -- Printing
 pub mod Decimals

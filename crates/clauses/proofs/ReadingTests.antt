@@ -1,13 +1,13 @@
 -- The tests of reading: of a body by the tally of its numbers, and of a text by its header.
 -- Assumes nothing.
 use mathlib.Core.Path.{_≡_, refl, sym, _∙_, ap}
-use mathlib.Core.List.{List, [], _∷_, _++_, map}
+use mathlib.Core.List.{List, [], _∷_, map}
 use mathlib.Core.Option.{Option, none, some}
 use Prim.Native.Nat.{ℕ, _≤_, _<_}
 use native.Mathlib.Omega.{arith}
 use borrow.Author.Tests.{lt-ltb, le-ltb}
 use lib.IntN.{ℤ, natAbs}
-use lib.ListN.{length, drop}
+use lib.ListN.{length}
 use Rattle.clauses.specs.Bytes.{Stretch}
 use Rattle.clauses.specs.Limit.{maxText}
 use Rattle.clauses.specs.Number.{number}
@@ -46,6 +46,17 @@ scanned-body v t (w ∷ ws) = go (number (w .bytes)) refl (λ z. scanned-body v 
     go none e ih = rw (scanned, body, e)
     go (some z) e ih = rw (scanned, body, e) (ih z ∙ scan-prepend v t z (body ws))
 
+-- the numbers of a body that is not malformed
+body-entries : (ws : List Stretch) (numbers : List ℤ) → body ws ≡ Body.entries numbers → numbersOf ws ≡ numbers
+unfolding body numbersOf prepend
+body-entries [] numbers h = cc
+body-entries (w ∷ ws) numbers h = go (number (w .bytes)) refl (body ws) refl (body-entries ws)
+  where
+    go : (o : Option ℤ) → number (w .bytes) ≡ o → (b : Body) → body ws ≡ b → ((l : List ℤ) → body ws ≡ Body.entries l → numbersOf ws ≡ l) → numbersOf (w ∷ ws) ≡ numbers
+    go none e b k ih = let f = rw (body, e) at h in let z : _≡_ {A = ℕ} 0 1 = cc in absurd (omega arith)
+    go (some z) e (Body.entries l) k ih = let f = rw (body, e, k) at h in let same : z ∷ l ≡ numbers = cc in rw (numbersOf, e, ih l k) same
+    go (some z) e (Body.malformed p) k ih = let f = rw (body, e, k) at h in let q : _≡_ {A = ℕ} 0 1 = cc in absurd (omega arith)
+
 module _ (v : ℕ) (ws : List Stretch) where
   pub scanned-malformed : (p : ℕ) → scanned v start ws ≡ C.Malformed p → body ws ≡ Body.malformed p
   unfolding scanOf
@@ -55,13 +66,13 @@ module _ (v : ℕ) (ws : List Stretch) where
       go (Body.entries numbers) h = let z : _≡_ {A = ℕ} 0 1 = cc in absurd (omega arith)
       go (Body.malformed q) h = let same : q ≡ p = cc in ap Body.malformed same
 
-  pub scanned-numbers : (t : Tally) → scanned v start ws ≡ C.Numbers t → (body ws ≡ Body.entries (numbersOf (body ws))) × (t ≡ tallyOf v (numbersOf (body ws)))
-  unfolding scanOf numbersOf
-  scanned-numbers t e = go (body ws) (sym (scanned-body v start ws) ∙ e)
+  pub scanned-numbers : (t : Tally) → scanned v start ws ≡ C.Numbers t → (body ws ≡ Body.entries (numbersOf ws)) × (t ≡ tallyOf v (numbersOf ws))
+  unfolding scanOf
+  scanned-numbers t e = go (body ws) refl (sym (scanned-body v start ws) ∙ e)
     where
-      go : (b : Body) → scanOf v start b ≡ C.Numbers t → (b ≡ Body.entries (numbersOf b)) × (t ≡ tallyOf v (numbersOf b))
-      go (Body.entries numbers) h = let same : tallied v start (map natAbs numbers) ≡ t = cc in (refl, sym same ∙ tally-all v numbers)
-      go (Body.malformed q) h = let z : _≡_ {A = ℕ} 0 1 = cc in absurd (omega arith)
+      go : (b : Body) → body ws ≡ b → scanOf v start b ≡ C.Numbers t → (body ws ≡ Body.entries (numbersOf ws)) × (t ≡ tallyOf v (numbersOf ws))
+      go (Body.entries numbers) k h = let same : tallied v start (map natAbs numbers) ≡ t = cc in rw (body-entries ws numbers k) (k, sym same ∙ tally-all v numbers)
+      go (Body.malformed q) k h = let z : _≡_ {A = ℕ} 0 1 = cc in absurd (omega arith)
 
 module _ (row : List ℤ) (s : Sizes) (numbers : List ℤ) where
   pub numbers-short : length row < length numbers → readNumbers row s numbers ≡ refused row RowTooShort
@@ -89,15 +100,10 @@ module _ (row : List ℤ) (s : Sizes) (numbers : List ℤ) where
       unfolding decide
       numbers-accepted k = behind-sizes ∙ entries-passed (refused row) (accepted row s numbers) (s .nets) (s .clauses) numbers [] k
 
--- what an outcome holds
+-- what an outcome that is a refusal holds
 pub refused-is : {o : Outcome} (row : List ℤ) (r : Refusal) → o ≡ refused row r → (R.Refused r ≡ o .result) × (row ≡ o .row)
 unfolding refused
 refused-is row r e = (sym (ap (λ (o : Outcome). o .result) e), sym (ap (λ (o : Outcome). o .row) e))
-
-pub accepted-is : {o : Outcome} (row : List ℤ) (s : Sizes) (numbers : List ℤ) → o ≡ accepted row s numbers
-    → (R.Accepted (record { nets = s .nets; clauses = s .clauses; entries = length numbers }) ≡ o .result) × (numbers ++ drop (length numbers) row ≡ o .row)
-unfolding accepted
-accepted-is row s numbers e = (sym (ap (λ (o : Outcome). o .result) e), sym (ap (λ (o : Outcome). o .row) e))
 
 module _ (row : List ℤ) (s : Sizes) (b : Body) where
   pub body-malformed : (p : ℕ) → b ≡ Body.malformed p → readBody row s b ≡ refused row (Word p)

@@ -7,10 +7,10 @@ use mathlib.Core.Option.{Option, none, some}
 use Prim.Native.Nat.{ℕ, zero, suc, _+_, _≤_, _<_}
 use lib.Dec.{eqb}
 use lib.IntN.{ℤ, pos, negsuc, natAbs}
-use lib.ListN.{length, getD, drop}
+use lib.ListN.{length, getD, take, drop}
 use Rattle.clauses.specs.Bytes.{lf, letter-c, isBlank, isGap, isDigit, front, Stretch}
 use Rattle.clauses.specs.Number.{unsigned, number}
-use Rattle.clauses.specs.Reading.{Sizes, sized, malformed, lines, heading, words, wordsOf, Body, body}
+use Rattle.clauses.specs.Reading.{Sizes, sized, malformed, lines, heading, words, wordsOf}
 use Rattle.clauses.specs.declared.text.Class.{Class}
 use Rattle.clauses.specs.declared.text.Class.the-variants.{Digit, Gap, Blank, Inline}
 use Rattle.clauses.specs.declared.number.Unsigned.{Unsigned}
@@ -116,15 +116,15 @@ scanned v t (w ∷ ws) = elim (number (w .bytes)) [ none ↦ C.Malformed (w .pla
 unfoldable pub scannedFrom : List ℕ → ℕ → ℕ → Scan
 scannedFrom text p v = scanned v start (wordsFrom text p)
 
--- the numbers of a body, none if it is malformed
-unfoldable pub numbersOf : Body → List ℤ
-numbersOf (Body.entries numbers) = numbers
-numbersOf (Body.malformed p) = []
+-- the numbers of words, up to the first one that is not a number
+unfoldable pub numbersOf : List Stretch → List ℤ
+numbersOf [] = []
+numbersOf (w ∷ ws) = elim (number (w .bytes)) [ none ↦ [] | some z ↦ z ∷ numbersOf ws ]
 
 -- the numbers from place p on
 abbrev pub numbersFrom : List ℕ → ℕ → List ℤ
-numbersFrom text p = numbersOf (body (wordsFrom text p))
+numbersFrom text p = numbersOf (wordsFrom text p)
 
--- every word from place p on is a number
-abbrev pub AllNumbers : List ℕ → ℕ → Type 0
-AllNumbers text p = body (wordsFrom text p) ≡ Body.entries (numbersFrom text p)
+-- a row holds numbers at its start, unless they are more than it has room for
+abbrev pub Keeps : List ℤ → List ℤ → Type 0
+Keeps row numbers = length numbers ≤ length row → take (length numbers) row ≡ numbers

@@ -1,10 +1,10 @@
 // The body of a text: the words of the lines that are not comments.
 
 ghost use mathlib.Core.Path.{_≡_};
-ghost use mathlib.Core.List.{_++_};
-ghost use Prim.Native.Nat.{_<_, _≤_};
-ghost use lib.ListN.{length, drop};
-ghost use Rattle.clauses.specs.Scanning.{startsLine, NextWord, scannedFrom, AllNumbers, numbersFrom};
+ghost use Prim.Native.Nat.{_≤_};
+ghost use lib.ListN.{length};
+ghost use lib.Seq.{sets};
+ghost use Rattle.clauses.specs.Scanning.{startsLine, NextWord, scannedFrom, numbersFrom};
 use crate::entry::put_entry;
 use crate::number::Number;
 use crate::number::read_number;
@@ -54,37 +54,21 @@ fn next_word(text: &[u8], at: usize) -> usize
     i
 }
 
-// The tally of the numbers from a place on, for nets up to v.
-pub fn tally_numbers(text: &[u8], from: usize, v: u32) -> Scan
+// The tally of the numbers from a place on, for nets up to v; and the numbers to the start of kept, as far as it has room.
+pub fn scan_numbers(text: &[u8], from: usize, v: u32, kept: &mut [i32]) -> Scan
     requires { ⌜ from ≤ length (now text) ⌝ }
     ensures { λ r. ⌜ r ≡ scannedFrom (now (text .entry)) from v ⌝ }
+    ensures { λ _. ⌜ now (kept .exit) ≡ sets (now (kept .entry)) 0 (numbersFrom (now (text .entry)) from) ⌝ }
 {
     let mut t = Tally::start();
     let mut at = next_word(text, from);
     while at < text.len() {
-        let Number::Value(_, m, next) = read_number(text, Cursor { at: at }) else {
+        let Number::Value(minus, m, next) = read_number(text, Cursor { at: at }) else {
             return Scan::Malformed(at);
         };
+        put_entry(kept, t.entries, minus, m);
         t = t.add(v, m);
         at = next_word(text, next.at);
     }
     Scan::Numbers(t)
-}
-
-// Writes the numbers from a place on at the start of a row.
-pub fn write_numbers(text: &[u8], from: usize, row: &mut [i32])
-    requires { ⌜ from ≤ length (now text) ⌝ }
-    requires { ⌜ AllNumbers (now text) from × (length (numbersFrom (now text) from) ≤ length (now row)) ⌝ }
-    ensures { λ _. ⌜ now (row .exit) ≡ numbersFrom (now (text .entry)) from ++ drop (length (numbersFrom (now (text .entry)) from)) (now (row .entry)) ⌝ }
-{
-    let mut i = 0;
-    let mut at = next_word(text, from);
-    while at < text.len() {
-        let Number::Value(minus, m, next) = read_number(text, Cursor { at: at }) else {
-            return;
-        };
-        put_entry(row, i, minus, m);
-        i += 1;
-        at = next_word(text, next.at);
-    }
 }

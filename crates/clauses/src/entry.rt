@@ -2,11 +2,11 @@
 
 ghost use mathlib.Core.Path.{_≡_};
 ghost use mathlib.Core.Bool.{not};
-ghost use mathlib.Core.List.{map};
+ghost use mathlib.Core.List.{_++_, map};
 ghost use Prim.Native.Nat.{_<_, _≤_};
 ghost use lib.IntN.{natAbs, pos};
 ghost use lib.Signed.{nonNeg};
-ghost use lib.ListN.{length, getD, set};
+ghost use lib.ListN.{length, getD, take, drop, set};
 ghost use Rattle.clauses.specs.Code.{codeOf};
 ghost use Rattle.clauses.specs.Limit.{maxNets};
 ghost use Rattle.clauses.specs.Number.{signed};
@@ -66,11 +66,24 @@ pub fn code_at(row: &[i32], i: usize) -> u32
     }
 }
 
-// Stores an entry, given by its sign and a magnitude of at most nine digits.
+// Stores an entry, given by its sign and a magnitude of at most nine digits, if the row has room for it.
 pub fn put_entry(row: &mut [i32], i: usize, minus: bool, m: u32)
-    requires { ⌜ i < length (now row) ⌝ }
     requires { ⌜ m < 1000000000 ⌝ }
     ensures { λ _. ⌜ now (row .exit) ≡ set (now (row .entry)) i (signed minus m) ⌝ }
 {
-    row[i] = entry_of(minus, m);
+    if i < row.len() {
+        row[i] = entry_of(minus, m);
+    }
+}
+
+// Copies the first n entries of a row to the start of another.
+pub fn copy_entries(from: &[i32], n: usize, row: &mut [i32])
+    requires { ⌜ (n ≤ length (now from)) × (n ≤ length (now row)) ⌝ }
+    ensures { λ _. ⌜ now (row .exit) ≡ take n (now (from .entry)) ++ drop n (now (row .entry)) ⌝ }
+{
+    let mut i = 0;
+    while i < n {
+        row[i] = from[i];
+        i += 1;
+    }
 }

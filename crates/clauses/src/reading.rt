@@ -1,19 +1,23 @@
 // DIMACS text in.
 
 ghost use mathlib.Core.Path.{_≡_};
+ghost use mathlib.Core.List.{List};
 ghost use Prim.Native.Nat.{_≤_};
+ghost use lib.IntN.{ℤ};
 ghost use lib.ListN.{length};
+ghost use Rattle.clauses.specs.Limit.{maxEntries};
 ghost use Rattle.clauses.specs.Reading.{body, readNumbers, readBody, reading};
-ghost use Rattle.clauses.specs.Scanning.{wordsFrom, numbersFrom, AllNumbers};
+ghost use Rattle.clauses.specs.Scanning.{wordsFrom, Keeps};
 ghost use Rattle.clauses.specs.Tally.{tallyOf};
 use crate::body::Scan;
-use crate::body::tally_numbers;
-use crate::body::write_numbers;
+use crate::body::scan_numbers;
 use crate::checks::Check;
 use crate::checks::check_entries;
 use crate::checks::check_sizes;
+use crate::entry::copy_entries;
 use crate::header::Header;
 use crate::header::find_header;
+use crate::limits::MAX_ENTRIES;
 use crate::limits::MAX_TEXT;
 use crate::refusal::Refusal;
 use crate::tally::Tally;
@@ -30,11 +34,11 @@ pub enum Reading {
     Refused(Refusal),
 }
 
-// Tests 4 to 7 and 10 to 12, of the numbers from a place on, whose tally is t; and the numbers to the row.
-fn read_numbers(text: &[u8], from: usize, v: u32, c: u32, t: Tally, row: &mut [i32]) -> Reading
-    requires { ⌜ (from ≤ length (now text)) × AllNumbers (now text) from × (t ≡ tallyOf v (numbersFrom (now text) from)) ⌝ }
-    ensures { λ r. ⌜ r ≡ readNumbers (now (row .entry)) (record { nets = v; clauses = c }) (numbersFrom (now (text .entry)) from) .result ⌝ }
-    ensures { λ r. ⌜ now (row .exit) ≡ readNumbers (now (row .entry)) (record { nets = v; clauses = c }) (numbersFrom (now (text .entry)) from) .row ⌝ }
+// Tests 4 to 7 and 10 to 12, of numbers whose tally is t and which kept holds; and the numbers to the row.
+fn read_numbers(kept: &[i32], v: u32, c: u32, t: Tally, row: &mut [i32]) -> Reading
+    requires { ⌜ maxEntries ≤ length (now kept) ⌝ }
+    ensures { λ r. ⌜ ((numbers : List ℤ) → Keeps (now (kept .entry)) numbers → t ≡ tallyOf v numbers
+        → record { result = r; row = now (row .exit) } ≡ readNumbers (now (row .entry)) (record { nets = v; clauses = c }) numbers) ⌝ }
 {
     let entries = t.entries;
     if row.len() < entries {
@@ -48,7 +52,7 @@ fn read_numbers(text: &[u8], from: usize, v: u32, c: u32, t: Tally, row: &mut [i
     if let Check::Refused(r) = numbers {
         return Reading::Refused(r);
     }
-    write_numbers(text, from, row);
+    copy_entries(kept, entries, row);
     Reading::Accepted(ListSize {
         nets: v,
         clauses: c,
@@ -56,15 +60,17 @@ fn read_numbers(text: &[u8], from: usize, v: u32, c: u32, t: Tally, row: &mut [i
     })
 }
 
-// Test 3, and the rest, of the body that starts at a place.
+// Test 3, and the rest, of the body that starts at a place. The row is written only once all tests have passed, so the numbers
+// are kept here until then.
 fn read_body(text: &[u8], from: usize, v: u32, c: u32, row: &mut [i32]) -> Reading
     requires { ⌜ from ≤ length (now text) ⌝ }
     ensures { λ r. ⌜ r ≡ readBody (now (row .entry)) (record { nets = v; clauses = c }) (body (wordsFrom (now (text .entry)) from)) .result ⌝ }
     ensures { λ r. ⌜ now (row .exit) ≡ readBody (now (row .entry)) (record { nets = v; clauses = c }) (body (wordsFrom (now (text .entry)) from)) .row ⌝ }
 {
-    match tally_numbers(text, from, v) {
+    let mut kept = [0i32; MAX_ENTRIES];
+    match scan_numbers(text, from, v, &mut kept) {
         Scan::Malformed(p) => Reading::Refused(Refusal::Word(p)),
-        Scan::Numbers(t) => read_numbers(text, from, v, c, t, row),
+        Scan::Numbers(t) => read_numbers(&kept, v, c, t, row),
     }
 }
 

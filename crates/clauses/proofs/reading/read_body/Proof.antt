@@ -2,9 +2,10 @@
 -- Assumes nothing.
 use Prim.Native.Nat.{ℕ}
 use Rattle.clauses.proofs.ReadingTests.{body-malformed, body-numbers, refused-is, scanned-malformed, scanned-numbers}
+use Rattle.clauses.proofs.Scans.{sets-keep}
 use Rattle.clauses.specs.Bytes.{Stretch}
 use Rattle.clauses.specs.Reading.{Outcome, body}
-use Rattle.clauses.specs.Scanning.{scannedFrom, wordsFrom}
+use Rattle.clauses.specs.Scanning.{numbersOf, scannedFrom, wordsFrom}
 use denote.Ref.{now}
 use mathlib.Core.List.{List}
 use mathlib.Core.Path.{_∙_, ap, sym}
@@ -18,8 +19,11 @@ text c = now (c .args .text)
 abbrev listed : tie.Start → List Stretch
 listed c = wordsFrom (text c) (c .args .from)
 
-tally-numbers-requires : tie.Need-tally-numbers-requires
-tally-numbers-requires c κs = search needs
+slice-aggregate-scan-numbers : tie.Need-slice-aggregate-scan-numbers
+slice-aggregate-scan-numbers c = search needs
+
+scan-numbers-requires : tie.Need-scan-numbers-requires
+scan-numbers-requires c κs = search needs
 
 enum-known-p : tie.Need-enum-known-p
 enum-known-p c = search needs
@@ -27,17 +31,18 @@ enum-known-p c = search needs
 enum-known-t : tie.Need-enum-known-t
 enum-known-t c = search needs
 
+slice-aggregate-read-numbers : tie.Need-slice-aggregate-read-numbers
+slice-aggregate-read-numbers c = search needs
+
 read-numbers-requires : tie.Need-read-numbers-requires
-unfolding scannedFrom
-read-numbers-requires c κs =
-    let told = scanned-numbers (c .before .before .before .before .before .before .args .v) (listed (c .before .before .before .before .before .before)) _ (sym (c .before .before .before .before .tally-numbers .ensures) ∙ c .before .before .t .given .1) in
-    (c .before .before .before .before .before .before .pre, told .0, told .1)
+read-numbers-requires c κs = search needs
 
 returns : tie.Need-returns
 unfolding scannedFrom
 returns c =
-    refused-is (now (c .before .before .before .before .before .args .row)) _
-    (body-malformed (now (c .before .before .before .before .before .args .row)) _ (body (listed (c .before .before .before .before .before))) _ (scanned-malformed (c .before .before .before .before .before .args .v) (listed (c .before .before .before .before .before)) _ (sym (c .before .before .before .tally-numbers .ensures) ∙ c .before .p .given .1)))
+    let s = c .before .before .before .before .before .before .before in
+    refused-is (now (s .args .row)) _
+    (body-malformed (now (s .args .row)) _ (body (listed s)) _ (scanned-malformed (s .args .v) (listed s) _ (sym (c .before .before .before .before .scan-numbers .ensures .0) ∙ c .before .p .given .1)))
 
 same-length : tie.Need-same-length
 same-length c = search needs
@@ -45,17 +50,22 @@ same-length c = search needs
 returns-2 : tie.Need-returns-2
 unfolding scannedFrom
 returns-2 c =
-    let told = scanned-numbers (c .before .before .before .before .before .before .before .before .args .v) (listed (c .before .before .before .before .before .before .before .before)) _ (sym (c .before .before .before .before .before .before .tally-numbers .ensures) ∙ c .before .before .before .before .t .given .1) in
-    let same = body-numbers (now (c .before .before .before .before .before .before .before .before .args .row)) (record { nets = c .before .before .before .before .before .before .before .before .args .v; clauses = c .before .before .before .before .before .before .before .before .args .c }) (body (listed (c .before .before .before .before .before .before .before .before))) _ (told .0) in
-    (c .before .read-numbers .ensures .0 ∙ sym (ap (λ (o : Outcome). o .result) same), c .before .read-numbers .ensures .1 ∙ sym (ap (λ (o : Outcome). o .row) same))
+    let s = c .before .before .before .before .before .before .before .before .before .before .before in
+    let numbers = numbersOf (listed s) in
+    let told = scanned-numbers (s .args .v) (listed s) _ (sym (c .before .before .before .before .before .before .before .before .scan-numbers .ensures .0) ∙ c .before .before .before .before .before .t .given .1) in
+    let same = body-numbers (now (s .args .row)) (record { nets = s .args .v; clauses = s .args .c }) (body (listed s)) _ (told .0) in
+    let done = c .before .read-numbers .ensures numbers (rw (c .before .before .before .before .before .before .before .before .scan-numbers .ensures .1) (sets-keep _ numbers)) (told .1) ∙ sym same in
+    (ap (λ (o : Outcome). o .result) done, ap (λ (o : Outcome). o .row) done)
 
 pub read-body-spec : {M : Type 1} → statement M
 read-body-spec =
     tie.close
     (tie.spec
-    tally-numbers-requires
+    slice-aggregate-scan-numbers
+    scan-numbers-requires
     enum-known-p
     enum-known-t
+    slice-aggregate-read-numbers
     read-numbers-requires
     returns
     same-length

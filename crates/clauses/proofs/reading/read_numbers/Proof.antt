@@ -1,11 +1,10 @@
 -- `clauses::reading::read_numbers` meets its contract.
 -- Assumes nothing.
 use Rattle.clauses.specs.declared.tally.Tally.{Tally}
-use Rattle.clauses.specs.declared.refusal.Refusal.the-variants.{RowTooShort}
 use Prim.Native.Nat.{_≤_}
-use Rattle.clauses.proofs.ReadingTests.{accepted-is, numbers-accepted, numbers-entries, numbers-short, numbers-sizes, refused-is}
-use Rattle.clauses.specs.Reading.{Sizes}
-use Rattle.clauses.specs.Scanning.{numbersFrom}
+use Rattle.clauses.proofs.ReadingTests.{numbers-accepted, numbers-entries, numbers-short, numbers-sizes}
+use Rattle.clauses.proofs.Tests.{sizes-within}
+use Rattle.clauses.specs.Reading.{Sizes, accepted, refused}
 use Rattle.clauses.specs.Tally.{tallyOf}
 use denote.Ref.{now}
 use lib.IntN.{ℤ}
@@ -17,22 +16,23 @@ use borrow.Author.Needs.{needs}
 use Rattle.clauses.proofs.reading.read_numbers.Statement.{statement}
 use Rattle.clauses.proofs.reading.read_numbers.Tie as tie
 
-abbrev numbers : tie.Start → List ℤ
-numbers c = numbersFrom (now (c .args .text)) (c .args .from)
+abbrev row : tie.Start → List ℤ
+row c = now (c .args .row)
 
 abbrev size : tie.Start → Sizes
 size c = record { nets = c .args .v; clauses = c .args .c }
 
 -- the tally's number of entries
-count : (c : tie.Start) → c .args .t .entries ≡ length (numbers c)
+count : (c : tie.Start) (numbers : List ℤ) → c .args .t ≡ tallyOf (c .args .v) numbers → c .args .t .entries ≡ length numbers
 unfolding tallyOf
-count c = ap (λ (t : Tally). t .entries) (c .pre .2)
+count c numbers e = ap (λ (t : Tally). t .entries) e
 
-room : (c : tie.Else1) → length (numbers (c .before .before)) ≤ length (now (c .before .before .args .row))
-room c = omega (arith, count (c .before .before), c .if1 .left)
+room : (c : tie.Else1) (numbers : List ℤ) → c .before .args .t ≡ tallyOf (c .before .args .v) numbers → length numbers ≤ length (row (c .before))
+room c numbers e = omega (arith, count (c .before) numbers e, c .if1 .left)
 
 returns : tie.Need-returns
-returns c = refused-is (now (c .before .before .args .row)) RowTooShort (numbers-short (now (c .before .before .args .row)) (size (c .before .before)) (numbers (c .before .before)) (omega (arith, count (c .before .before), c .if1 .taken)))
+unfolding refused
+returns c numbers k e = sym (numbers-short (row (c .before)) (size (c .before)) numbers (omega (arith, count (c .before) numbers e, c .if1 .taken)))
 
 check-sizes-requires : tie.Need-check-sizes-requires
 check-sizes-requires c κs = search needs
@@ -41,7 +41,10 @@ enum-known-sizes : tie.Need-enum-known-sizes
 enum-known-sizes c = search needs
 
 returns-2 : tie.Need-returns-2
-returns-2 c = refused-is (now (c .before .before .before .before .before .before .args .row)) _ (numbers-sizes (now (c .before .before .before .before .before .before .args .row)) (size (c .before .before .before .before .before .before)) (numbers (c .before .before .before .before .before .before)) (room (c .before .before .before .before)) _ (rw (← count (c .before .before .before .before .before .before)) (sym (c .before .before .before .check-sizes .ensures) ∙ c .before .sizes .given .1)))
+unfolding refused
+returns-2 c numbers k e =
+    let s = c .before .before .before .before .before in
+    sym (numbers-sizes (row s) (size s) numbers (room (c .before .before .before .before) numbers e) _ (rw (← count s numbers e) (sym (c .before .before .before .check-sizes .ensures) ∙ c .before .sizes .given .1)))
 
 enum-told : tie.Need-enum-told
 enum-told c = search needs
@@ -53,28 +56,38 @@ enum-known-numbers : tie.Need-enum-known-numbers
 enum-known-numbers c = search needs
 
 returns-3 : tie.Need-returns-3
-returns-3 c =
-    refused-is (now (c .before .before .before .before .before .before .before .before .before .args .row)) _
-    (numbers-entries (now (c .before .before .before .before .before .before .before .before .before .args .row)) (size (c .before .before .before .before .before .before .before .before .before)) (numbers (c .before .before .before .before .before .before .before .before .before)) (room (c .before .before .before .before .before .before .before))
-    (rw (← count (c .before .before .before .before .before .before .before .before .before)) (sym (c .before .before .before .before .before .before .check-sizes .ensures) ∙ c .before .before .before .before .enum-told .given .1))
-    _ (rw (← c .before .before .before .before .before .before .before .before .before .pre .2) (sym (c .before .before .before .check-entries .ensures) ∙ c .before .numbers .given .1)))
+unfolding refused
+returns-3 c numbers k e =
+    let s = c .before .before .before .before .before .before .before .before in
+    sym
+    (numbers-entries (row s) (size s) numbers (room (c .before .before .before .before .before .before .before) numbers e)
+    (rw (← count s numbers e) (sym (c .before .before .before .before .before .before .check-sizes .ensures) ∙ c .before .before .before .before .enum-told .given .1))
+    _ (rw (← e) (sym (c .before .before .before .check-entries .ensures) ∙ c .before .numbers .given .1)))
 
 enum-told-2 : tie.Need-enum-told-2
 enum-told-2 c = search needs
 
-write-numbers-requires : tie.Need-write-numbers-requires
-write-numbers-requires c κs = (c .before .before .before .before .before .before .before .before .before .pre .0, (c .before .before .before .before .before .before .before .before .before .pre .1, room (c .before .before .before .before .before .before .before)))
+copy-entries-requires : tie.Need-copy-entries-requires
+copy-entries-requires c κs =
+    let s = c .before .before .before .before .before .before .before .before in
+    let few = sizes-within (s .args .v) (s .args .c) (s .args .t .entries) (sym (c .before .before .before .before .before .before .check-sizes .ensures) ∙ c .before .before .before .before .enum-told .given .1) in
+    (omega (arith, few .2, s .pre), c .before .before .before .before .before .before .before .if1 .left)
 
 same-length : tie.Need-same-length
 same-length c = search needs
 
 returns-4 : tie.Need-returns-4
-returns-4 c =
-    let done = accepted-is (now (c .before .before .before .before .before .before .before .before .before .before .before .args .row)) (size (c .before .before .before .before .before .before .before .before .before .before .before)) (numbers (c .before .before .before .before .before .before .before .before .before .before .before))
-    (numbers-accepted (now (c .before .before .before .before .before .before .before .before .before .before .before .args .row)) (size (c .before .before .before .before .before .before .before .before .before .before .before)) (numbers (c .before .before .before .before .before .before .before .before .before .before .before)) (room (c .before .before .before .before .before .before .before .before .before))
-    (rw (← count (c .before .before .before .before .before .before .before .before .before .before .before)) (sym (c .before .before .before .before .before .before .before .before .check-sizes .ensures) ∙ c .before .before .before .before .before .before .enum-told .given .1))
-    (rw (← c .before .before .before .before .before .before .before .before .before .before .before .pre .2) (sym (c .before .before .before .before .before .check-entries .ensures) ∙ c .before .before .before .enum-told2 .given .1))) in
-    (rw (count (c .before .before .before .before .before .before .before .before .before .before .before)) (done .0), c .before .write-numbers .ensures ∙ done .1)
+unfolding accepted
+returns-4 c numbers k e =
+    let s = c .before .before .before .before .before .before .before .before .before .before in
+    let sizes = sym (c .before .before .before .before .before .before .before .before .check-sizes .ensures) ∙ c .before .before .before .before .before .before .enum-told .given .1 in
+    let few = sizes-within (s .args .v) (s .args .c) (s .args .t .entries) sizes in
+    let held = k (omega (arith, few .2, s .pre, count s numbers e)) in
+    rw (c .before .copy-entries .ensures, count s numbers e, held)
+    (sym
+    (numbers-accepted (row s) (size s) numbers (room (c .before .before .before .before .before .before .before .before .before) numbers e)
+    (rw (← count s numbers e) sizes)
+    (rw (← e) (sym (c .before .before .before .before .before .check-entries .ensures) ∙ c .before .before .before .enum-told2 .given .1))))
 
 pub read-numbers-spec : {M : Type 1} → statement M
 read-numbers-spec =
@@ -89,6 +102,6 @@ read-numbers-spec =
     enum-known-numbers
     returns-3
     enum-told-2
-    write-numbers-requires
+    copy-entries-requires
     same-length
     returns-4)
