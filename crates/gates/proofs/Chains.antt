@@ -1,151 +1,107 @@
--- The chains of the clause index: how they are made, and a search along one.
+-- Chains of the numbers in the same bucket: how they are built, and a walk along one.
 -- Assumes nothing.
-use mathlib.Core.Path.{_≡_, sym, _∙_, ap, subst}
-use mathlib.Core.Logic.{_≢_, _⊎_, inl, inr}
-use mathlib.Core.Bool.{true, false, true≢false}
+use mathlib.Core.Path.{_≡_, subst, subst⁻¹}
 use mathlib.Core.List.{List}
 use Prim.Native.Nat.{ℕ, _+_, _-_, _≤_, _<_}
 use native.Mathlib.Omega.{arith}
 use native.Mathlib.Decide.{decLt, ℕ-discrete}
-use lib.Dec.{eqb}
-use lib.ListN.{length, getD, set, replicate, length-set, getD-replicate}
+use lib.ListN.{length, getD, set, replicate, length-set}
 use lib.Seq.{getD-set-same, getD-set-other}
-use borrow.Author.Tests.{eq-eqb, eqb-true}
-use Rattle.clauses.specs.Clause.{Same}
-use Rattle.clauses.specs.Listing.{sameSet}
-use Rattle.clauses.proofs.Lists.{or-cases, or-left, or-right}
-use Rattle.clauses.proofs.Clauses.{is-same}
-use Rattle.gates.specs.Found.{clauseAt, Starts}
-use Rattle.gates.specs.Index.{buckets, bucketOf, isStart, NextIn, Indexed}
-use Rattle.gates.proofs.Places.{Passed}
-use Rattle.gates.proofs.Buckets.{same-bucket, bucket-small}
+use Rattle.gates.specs.Chains.{Last, ChainedIn}
+use Rattle.gates.proofs.Fills.{zero-at}
 
--- Where clauses start
-
-pub start-true : (row : List ℕ) (b : ℕ) → b < length row → isStart row b ≡ true → Starts row b
-unfolding isStart
-start-true row b h e = record { inside = h; behind = go (or-cases (eqb b 0) (eqb (getD row (b - 1) 0) 0) e) }
-  where
-    go : (eqb b 0 ≡ true) ⊎ (eqb (getD row (b - 1) 0) 0 ≡ true) → (b ≡ 0) ⊎ (getD row (b - 1) 0 ≡ 0)
-    go (inl t) = inl (eqb-true b 0 t)
-    go (inr t) = inr (eqb-true (getD row (b - 1) 0) 0 t)
-
-pub start-false : (row : List ℕ) (b : ℕ) → isStart row b ≡ false → ¬ Starts row b
-unfolding isStart
-start-false row b e s = go (s .behind)
-  where
-    go : (b ≡ 0) ⊎ (getD row (b - 1) 0 ≡ 0) → ⊥
-    go (inl z) = true≢false (sym (or-left (eqb (getD row (b - 1) 0) 0) (eq-eqb b 0 z)) ∙ e)
-    go (inr z) = true≢false (sym (or-right (eqb b 0) (eq-eqb (getD row (b - 1) 0) 0 z)) ∙ e)
-
--- The chains are made from the last clause to the first
-
--- the clauses from place b on are chained
-pub record Chained (row : List ℕ) (size b : ℕ) (index : List ℕ) : Type 0 where
-  pub inside : b ≤ length row
-  pub room : length index ≡ size
-  pub head : (h : ℕ) → h < buckets → NextIn row h b (getD index h 0)
-  pub next : (p : ℕ) → b ≤ p → Starts row p → NextIn row (bucketOf (clauseAt row p)) (p + 1) (getD index (buckets + p) 0)
-
-module _ {row : List ℕ} {size : ℕ} where
-  pub chained-none : {index : List ℕ} (n : ℕ) → index ≡ replicate n (length row) → buckets ≤ n → length index ≡ size → Chained row size (length row) index
-  chained-none n e r l =
+module _ (In : ℕ → ℕ → Type 0) where
+  pub chain-none : (n : ℕ) (heads next : List ℕ) → heads ≡ replicate n 0 → ChainedIn In 0 heads next
+  chain-none n heads next e =
       record {
-        inside = omega arith;
-        room = l;
-        head = λ h k. rw (e, getD-replicate n h (length row) 0 (omega arith)) (record { low = omega arith; high = omega arith; here = λ m. absurd (omega arith); none = λ p m o s. absurd (omega arith) });
-        next = λ p m s. absurd (omega (arith, s .inside));
+        head = λ b h. rw (e, zero-at n b) (record { low = omega arith; at = λ l. absurd (omega arith); none = λ i l. absurd (omega arith) });
+        link = λ i b l. absurd (omega arith);
       }
 
-  -- a step down to place b
-  module _ {b : ℕ} {index : List ℕ} (k : Chained row size (b + 1) index) where
-    -- no clause of bucket h starts at b
-    lower : (h j : ℕ) → NextIn row h (b + 1) j → (Starts row b → bucketOf (clauseAt row b) ≢ h) → NextIn row h b j
-    lower h j n d = record { low = omega (arith, n .low); high = n .high; here = n .here; none = λ p l m s. go p l m s (ℕ-discrete p b) }
+  module _ (m : ℕ) (heads next : List ℕ) (c : ChainedIn In m heads next) where
+    -- m is not in bucket b
+    last-passed : (b k : ℕ) → Last In b m k → ¬ In m b → Last In b (m + 1) k
+    last-passed b k o n = record { low = omega (arith, o .low); at = o .at; none = λ i l d. none i l d (ℕ-discrete i m) }
       where
-        go : (p : ℕ) → b ≤ p → p < j → Starts row p → Dec (p ≡ b) → bucketOf (clauseAt row p) ≢ h
-        go p l m s (yes e) q = d (subst (Starts row) e s) (sym (ap (λ (i : ℕ). bucketOf (clauseAt row i)) e) ∙ q)
-        go p l m s (no o) q = n .none p (omega arith) m s q
+        none : (i : ℕ) → i < m + 1 → In i b → Dec (i ≡ m) → i < k
+        none i l d (yes e) = absurd (n (subst (λ (x : ℕ). In x b) e d))
+        none i l d (no e) = o .none i (omega arith) d
 
-    pub chained-past : ¬ Starts row b → Chained row size b index
-    chained-past d =
-        record {
-          inside = omega (arith, k .inside);
-          room = k .room;
-          head = λ h l. lower h (getD index h 0) (k .head h l) (λ s. absurd (d s));
-          next = λ p l s. go p l s (ℕ-discrete p b);
-        }
+    -- m is in no bucket
+    pub chain-passed : ((b : ℕ) → ¬ In m b) → ChainedIn In (m + 1) heads next
+    chain-passed n = record { head = λ b h. last-passed b (getD heads b 0) (c .head b h) (n b); link = λ i b l d. link i b l d (ℕ-discrete i m) }
       where
-        go : (p : ℕ) → b ≤ p → Starts row p → Dec (p ≡ b) → NextIn row (bucketOf (clauseAt row p)) (p + 1) (getD index (buckets + p) 0)
-        go p l s (yes e) = absurd (d (subst (Starts row) e s))
-        go p l s (no n) = k .next p (omega arith) s
+        link : (i b : ℕ) → i < m + 1 → In i b → Dec (i ≡ m) → Last In b i (getD next i 0)
+        link i b l d (yes e) = absurd (n b (subst (λ (x : ℕ). In x b) e d))
+        link i b l d (no e) = c .link i b (omega arith) d
 
-    -- the clause at b is put before the others of its bucket
-    pub chained-put : Starts row b → buckets + length row ≤ size → {h : ℕ} → h ≡ bucketOf (clauseAt row b) → Chained row size b (set (set index (buckets + b) (getD index h 0)) h b)
-    chained-put s r {h} i =
-        record {
-          inside = omega (arith, k .inside);
-          room = length-set (set index (buckets + b) (getD index h 0)) h b ∙ length-set index (buckets + b) (getD index h 0) ∙ k .room;
-          head = λ g l. head g l (ℕ-discrete g h);
-          next = λ p l u. next p l u (ℕ-discrete p b);
-        }
+    -- m is in bucket b alone
+    pub chain-linked : (b : ℕ) → In m b → ((x : ℕ) → In m x → x ≡ b) → b < length heads → m < length next
+        → (heads′ next′ : List ℕ) → heads′ ≡ set heads b (m + 1) → next′ ≡ set next m (getD heads b 0) → ChainedIn In (m + 1) heads′ next′
+    chain-linked b here alone inside room heads′ next′ p q =
+        rw (p, q)
+        (record { head = λ x h. head x (rw length-set at h) (ℕ-discrete x b); link = λ i x l d. link i x l d (ℕ-discrete i m) })
       where
-        small : h < buckets
-        small = omega (arith, i, bucket-small (clauseAt row b))
+        head : (x : ℕ) → x < length heads → Dec (x ≡ b) → Last In x (m + 1) (getD (set heads b (m + 1)) x 0)
+        head x h (yes e) =
+            let z : m + 1 - 1 ≡ m = omega arith in
+            rw (e, getD-set-same heads b (m + 1) 0 inside) (record { low = omega arith; at = λ l. subst⁻¹ (λ (i : ℕ). In i b) z here; none = λ i l d. l })
+        head x h (no n) = rw (getD-set-other heads b x (m + 1) 0 n) (last-passed x (getD heads x 0) (c .head x h) (λ d. n (alone x d)))
 
-        size-of : length (set index (buckets + b) (getD index h 0)) ≡ size
-        size-of = length-set index (buckets + b) (getD index h 0) ∙ k .room
+        link : (i x : ℕ) → i < m + 1 → In i x → Dec (i ≡ m) → Last In x i (getD (set next m (getD heads b 0)) i 0)
+        link i x l d (yes e) =
+            let z : x ≡ b = alone x (subst (λ (j : ℕ). In j x) e d) in
+            rw (e, getD-set-same next m (getD heads b 0) 0 room, z) (c .head b inside)
+        link i x l d (no n) = rw (getD-set-other next m i (getD heads b 0) 0 n) (c .link i x (omega arith) d)
 
-        head : (g : ℕ) → g < buckets → Dec (g ≡ h) → NextIn row g b (getD (set (set index (buckets + b) (getD index h 0)) h b) g 0)
-        head g l (yes e) =
-            rw (e, getD-set-same (set index (buckets + b) (getD index h 0)) h b 0 (omega (arith, small, size-of)))
-            (record { low = omega arith; high = omega (arith, k .inside); here = λ m. (s, sym i); none = λ p m o u. absurd (omega arith) })
-        head g l (no n) =
-            rw (getD-set-other (set index (buckets + b) (getD index h 0)) h g b 0 n, getD-set-other index (buckets + b) g (getD index h 0) 0 (omega arith))
-            (lower g (getD index g 0) (k .head g l) (λ u e. n (sym e ∙ sym i)))
+    -- what stands for m and after it does not matter
+    pub chain-free : (v : ℕ) → ChainedIn In m heads (set next m v)
+    chain-free v = record { head = c .head; link = λ i b l d. rw (getD-set-other next m i v 0 (omega arith)) (c .link i b l d) }
 
-        next : (p : ℕ) → b ≤ p → Starts row p → Dec (p ≡ b) → NextIn row (bucketOf (clauseAt row p)) (p + 1) (getD (set (set index (buckets + b) (getD index h 0)) h b) (buckets + p) 0)
-        next p l u (yes e) =
-            rw (e, getD-set-other (set index (buckets + b) (getD index h 0)) h (buckets + b) b 0 (omega (arith, small)), getD-set-same index (buckets + b) (getD index h 0) 0 (omega (arith, k .inside, k .room, r)), ← i)
-            (k .head h small)
-        next p l u (no n) =
-            rw (getD-set-other (set index (buckets + b) (getD index h 0)) h (buckets + p) b 0 (omega (arith, small)), getD-set-other index (buckets + b) (buckets + p) (getD index h 0) 0 (omega arith))
-            (k .next p (omega arith) u)
+-- .. nor does what the numbers from m on are in
+module _ {In On : ℕ → ℕ → Type 0} where
+  last-moved : {b m k : ℕ} → ((i : ℕ) → i < m → In i b → On i b) → ((i : ℕ) → i < m → On i b → In i b) → Last In b m k → Last On b m k
+  last-moved f g o = record { low = o .low; at = λ l. f _ (omega (arith, o .low)) (o .at l); none = λ i l d. o .none i l (g i l d) }
 
-  pub chained-all : {index : List ℕ} → Chained row size 0 index → buckets + length row ≤ size → Indexed row index
-  chained-all k r = record { room = omega (arith, k .room); head = k .head; next = λ b s. k .next b (omega arith) s }
-
--- A search along a chain
-
--- it has come to place b, where a clause of the bucket starts or the row ends
-pub record Searching (row q : List ℕ) (b : ℕ) : Type 0 where
-  pub passed : Passed row q b
-  pub bucket : b < length row → bucketOf (clauseAt row b) ≡ bucketOf q
-
-module _ {row index q : List ℕ} (x : Indexed row index) where
-  pub searching-first : {h : ℕ} → h ≡ bucketOf q → Searching row q (getD index h 0)
-  searching-first {h} e =
-      let n = x .head h (omega (arith, e, bucket-small q)) in
+  pub chain-moved : {m : ℕ} {heads next : List ℕ} → ((i b : ℕ) → i < m → In i b → On i b) → ((i b : ℕ) → i < m → On i b → In i b)
+      → ChainedIn In m heads next → ChainedIn On m heads next
+  chain-moved f g c =
       record {
-        passed = record { start = λ l. n .here l .0; none = λ p l s t. n .none p (omega arith) l s (sym (same-bucket q (clauseAt row p) t) ∙ sym e) };
-        bucket = λ l. n .here l .1 ∙ e;
+        head = λ b h. last-moved (λ i. f i b) (λ i. g i b) (c .head b h);
+        link = λ i b l d. last-moved (λ j u. f j b (omega arith)) (λ j u. g j b (omega arith)) (c .link i b l (g i b l d));
       }
 
-  module _ {b : ℕ} (k : Searching row q b) (l : b < length row) where
-    link : NextIn row (bucketOf (clauseAt row b)) (b + 1) (getD index (buckets + b) 0)
-    link = x .next b (k .passed .start l)
+-- a walk along the chain of bucket b has come to k, counted from 1: the numbers from there on are visited
+pub record WalkIn (In : ℕ → ℕ → Type 0) (m b : ℕ) (Visited : ℕ → Type 0) (k : ℕ) : Type 0 where
+  pub low : k ≤ m
+  pub at : 0 < k → In (k - 1) b
+  pub seen : (i : ℕ) → i < m → k ≤ i → In i b → Visited i
 
-    pub searching-next : sameSet q (clauseAt row b) ≡ false → Searching row q (getD index (buckets + b) 0)
-    searching-next e =
-        record {
-          passed = record { start = λ m. link .here m .0; none = λ p m s. go p m s (decLt p b) (ℕ-discrete p b) };
-          bucket = λ m. link .here m .1 ∙ k .bucket l;
-        }
-      where
-        go : (p : ℕ) → p < getD index (buckets + b) 0 → Starts row p → Dec (p < b) → Dec (p ≡ b) → ¬ Same q (clauseAt row p)
-        go p m s (yes o) d t = k .passed .none p o s t
-        go p m s (no o) (yes i) t = true≢false (sym (is-same q (clauseAt row b) (subst (λ (j : ℕ). Same q (clauseAt row j)) i t)) ∙ e)
-        go p m s (no o) (no i) t = link .none p (omega arith) m s (sym (same-bucket q (clauseAt row p) t) ∙ sym (k .bucket l))
+abbrev pub Walk : (ℕ → ℕ) → ℕ → ℕ → (ℕ → Type 0) → ℕ → Type 0
+Walk key = WalkIn (λ i b. key i ≡ b)
 
-    pub searching-falls : length row - getD index (buckets + b) 0 < length row - b
-    searching-falls = omega (arith, link .low)
+module _ (In : ℕ → ℕ → Type 0) (m b : ℕ) where
+  pub walk-map : {P Q : ℕ → Type 0} {k : ℕ} → ((i : ℕ) → P i → Q i) → WalkIn In m b P k → WalkIn In m b Q k
+  walk-map f w = record { low = w .low; at = w .at; seen = λ i l h d. f i (w .seen i l h d) }
+
+  pub walk-end : {P : ℕ → Type 0} {k : ℕ} → WalkIn In m b P k → k ≤ 0 → (i : ℕ) → i < m → In i b → P i
+  walk-end w h i l d = w .seen i l (omega arith) d
+
+  module _ (heads next : List ℕ) (c : ChainedIn In m heads next) where
+    pub walk-begin : (P : ℕ → Type 0) → b < length heads → WalkIn In m b P (getD heads b 0)
+    walk-begin P h = let o = c .head b h in record { low = o .low; at = o .at; seen = λ i l k d. absurd (omega (arith, o .none i l d)) }
+
+    module _ {P : ℕ → Type 0} {k : ℕ} (w : WalkIn In m b P k) (h : 0 < k) where
+      linked : Last In b (k - 1) (getD next (k - 1) 0)
+      linked = c .link (k - 1) b (omega (arith, w .low)) (w .at h)
+
+      pub walk-next : P (k - 1) → WalkIn In m b P (getD next (k - 1) 0)
+      walk-next v = record { low = omega (arith, linked .low, w .low); at = linked .at; seen = λ i l g d. seen i l g d (decLt i k) (ℕ-discrete i (k - 1)) }
+        where
+          seen : (i : ℕ) → i < m → getD next (k - 1) 0 ≤ i → In i b → Dec (i < k) → Dec (i ≡ k - 1) → P i
+          seen i l g d (no n) e = w .seen i l (omega arith) d
+          seen i l g d (yes n) (yes e) = subst⁻¹ P e v
+          seen i l g d (yes n) (no e) = absurd (omega (arith, linked .none i (omega arith) d))
+
+      pub walk-falls : getD next (k - 1) 0 < k
+      walk-falls = omega (arith, linked .low)

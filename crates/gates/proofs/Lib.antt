@@ -14,7 +14,7 @@ pub mod Fills
 pub mod Normalising
 pub mod NormalForm
 pub mod Buckets
-pub mod Chains
+pub mod ClauseChains
 pub mod Every
 pub mod StartOf
 pub mod Firsts
@@ -29,6 +29,7 @@ pub mod Marking
 pub mod Threes
 pub mod ClauseKinds
 pub mod Twos
+pub mod Chains
 pub mod HalfChains
 pub mod Halves
 pub mod Sides

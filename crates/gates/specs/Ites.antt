@@ -14,6 +14,7 @@ use Rattle.clauses.specs.Listing.{present}
 use Rattle.gates.specs.Sign.{isInverse}
 use Rattle.gates.specs.Found.{clauseAt, around}
 use Rattle.gates.specs.Mark.{isFirst, startOf}
+use Rattle.gates.specs.Chains.{ChainedIn}
 
 -- Pairs of clauses: (x, y, z) and (x, not y, not z)
 
@@ -102,25 +103,23 @@ pairsOf row hs = each (keep (isPlainHalf row) hs) (λ h. map (λ m. (h, m)) (mat
 
 -- Chains of the halves at paired places, by literal and output
 
--- the last number below k with h of it equal to b, counted from 1; 0 where there is none
-unfoldable pub lastWith : (ℕ → ℕ) → ℕ → ℕ → ℕ
-lastWith h b zero = 0
-lastWith h b (suc k) = cond (eqb (h k) b) (suc k) (lastWith h b k)
-
 -- the bucket, of m, of the halves with literal x and the output whose inverse is y
 unfoldable pub halfBucket : ℕ → ℕ → ℕ → ℕ
 halfBucket m x y = (x * 67 + y) % m
 
--- of a half at a paired place: its bucket, counted from 1
-unfoldable pub keyOf : ℕ → List ℕ → ℕ → ℕ
-keyOf m row j = cond (isPaired row (half j .place)) (suc (halfBucket m (getD row (half j .place) 0) (output row (half j)))) 0
+-- half j stands at a paired place and is in bucket b of m
+pub record HalfIn (row : List ℕ) (m j b : ℕ) : Type 0 where
+  pub paired : isPaired row (half j .place) ≡ true
+  pub bucket : halfBucket m (getD row (half j .place) 0) (output row (half j)) ≡ b
 
--- the halves of the numbers below k: for each of the m buckets its last one, and for each half at a paired place, counted from 1 more, the one
--- before it in its bucket; 0 for the others
-pub record Chained (row : List ℕ) (m k : ℕ) (heads chain : List ℕ) : Type 0 where
-  pub last : (b : ℕ) → b < m → getD heads b 0 ≡ lastWith (keyOf m row) (suc b) k
-  pub before : (j : ℕ) → j < k → isPaired row (half j .place) ≡ true → getD chain j 0 ≡ suc (lastWith (keyOf m row) (keyOf m row j) j)
-  pub unpaired : (j : ℕ) → j < k → isPaired row (half j .place) ≡ false → getD chain j 0 ≡ 0
+-- the entry of a half that is in no chain
+abbrev pub unchained : ℕ
+unchained = 4294967295
+
+-- the halves of the numbers below k: those at paired places are chained by m buckets, the others are in no chain
+pub record HalvesChained (row : List ℕ) (m k : ℕ) (heads chain : List ℕ) : Type 0 where
+  pub chains : ChainedIn (HalfIn row m) k heads chain
+  pub unpaired : (j : ℕ) → j < k → isPaired row (half j .place) ≡ false → getD chain j 0 ≡ unchained
 
 -- there is room for the chains: a bucket, and an entry for each half
 pub record Room (row : List ℕ) (heads chain : ℕ) : Type 0 where

@@ -10,4 +10,5 @@ pub mod Walk
 pub mod Normal
 pub mod Index
 pub mod Mark
+pub mod Chains
 pub mod Ites

@@ -12,10 +12,14 @@ ghost use Rattle.gates.specs.Found.{around};
 ghost use Rattle.gates.specs.Normal.{Normal, maxCode};
 ghost use Rattle.gates.specs.Index.{Indexed};
 ghost use Rattle.gates.specs.Mark.{isFirst, Kinds, startOf};
-ghost use Rattle.gates.specs.Ites.{inThree, isPaired, halvesAt, half, allHalves, output, isMate, sideMark, Sided, pairsOf, halfBucket, Chained, Room};
+ghost use Rattle.gates.specs.Ites.{inThree, isPaired, halvesAt, half, allHalves, output, isMate, sideMark, Sided, pairsOf, halfBucket, HalvesChained, Room};
+use crate::chain::link;
 use crate::counts::Counts;
 use crate::literal::inverse;
 use crate::search::is_present;
+
+// The entry of a half that is in no chain.
+const UNCHAINED: u32 = 4294967295;
 
 // The place after p in its clause of three literals, the first one coming after the last.
 fn next_place(codes: &[u32], p: usize) -> usize
@@ -83,17 +87,16 @@ fn half_bucket(m: usize, x: u32, y: u32) -> usize
 }
 
 // Puts half j, with literal x and the output whose inverse is y, into its chain.
-fn link(codes: &[u32], j: usize, x: u32, y: u32, heads: &mut [u32], chain: &mut [u32])
+fn link_half(codes: &[u32], j: usize, x: u32, y: u32, heads: &mut [u32], chain: &mut [u32])
     requires { ⌜ Normal (now codes) ⌝ }
     requires { ⌜ Room (now codes) (length (now heads)) (length (now chain)) ⌝ }
-    requires { ⌜ Chained (now codes) (length (now heads)) j (now heads) (now chain) ⌝ }
+    requires { ⌜ HalvesChained (now codes) (length (now heads)) j (now heads) (now chain) ⌝ }
     requires { ⌜ (j < 2 * length (now codes)) × (isPaired (now codes) (j / 2) ≡ true) ⌝ }
     requires { ⌜ (x ≡ getD (now codes) (j / 2) 0) × (y ≡ output (now codes) (half j)) ⌝ }
-    ensures { λ _. ⌜ Chained (now (codes .entry)) (length (now (heads .entry))) (j + 1) (now (heads .exit)) (now (chain .exit)) ⌝ }
+    ensures { λ _. ⌜ HalvesChained (now (codes .entry)) (length (now (heads .entry))) (j + 1) (now (heads .exit)) (now (chain .exit)) ⌝ }
 {
     let b = half_bucket(heads.len(), x, y);
-    chain[j] = heads[b] + 1;
-    heads[b] = (j + 1) as u32;
+    link(b, j, heads, chain);
 }
 
 // Puts the halves at place p into their chains if it is paired; b is where its clause starts.
@@ -111,8 +114,8 @@ fn link_place(
     requires { ⌜ Kinds (now codes) (now kinds) (length (now codes)) ⌝ }
     requires { ⌜ (p < length (now codes)) × (b ≡ startOf (now codes) p) ⌝ }
     requires { ⌜ Room (now codes) (length (now heads)) (length (now chain)) ⌝ }
-    requires { ⌜ Chained (now codes) (length (now heads)) (2 * p) (now heads) (now chain) ⌝ }
-    ensures { λ _. ⌜ Chained (now (codes .entry)) (length (now (heads .entry))) (2 * (p + 1)) (now (heads .exit)) (now (chain .exit)) ⌝ }
+    requires { ⌜ HalvesChained (now codes) (length (now heads)) (2 * p) (now heads) (now chain) ⌝ }
+    ensures { λ _. ⌜ HalvesChained (now (codes .entry)) (length (now (heads .entry))) (2 * (p + 1)) (now (heads .exit)) (now (chain .exit)) ⌝ }
 {
     if is_paired(codes, index, kinds, b, p) {
         let next = next_place(codes, p);
@@ -120,11 +123,11 @@ fn link_place(
         let x = codes[p];
         let y = codes[next];
         let z = codes[after];
-        link(codes, 2 * p, x, y, heads, chain);
-        link(codes, 2 * p + 1, x, z, heads, chain);
+        link_half(codes, 2 * p, x, y, heads, chain);
+        link_half(codes, 2 * p + 1, x, z, heads, chain);
     } else {
-        chain[2 * p] = 0;
-        chain[2 * p + 1] = 0;
+        chain[2 * p] = UNCHAINED;
+        chain[2 * p + 1] = UNCHAINED;
     }
 }
 
@@ -135,7 +138,7 @@ fn chain_paired(codes: &[u32], index: &[u32], kinds: &[u8], heads: &mut [u32], c
     requires { ⌜ Kinds (now codes) (now kinds) (length (now codes)) ⌝ }
     requires { ⌜ Room (now codes) (length (now heads)) (length (now chain)) ⌝ }
     requires { ⌜ now heads ≡ replicate (length (now heads)) 0 ⌝ }
-    ensures { λ _. ⌜ Chained (now (codes .entry)) (length (now (heads .entry))) (2 * length (now (codes .entry))) (now (heads .exit)) (now (chain .exit)) ⌝ }
+    ensures { λ _. ⌜ HalvesChained (now (codes .entry)) (length (now (heads .entry))) (2 * length (now (codes .entry))) (now (heads .exit)) (now (chain .exit)) ⌝ }
 {
     let mut b = 0;
     let mut p = 0;
@@ -181,7 +184,7 @@ fn one_mate(codes: &[u32], j: usize, x: u32, y: u32, z: u32) -> u32
 fn count_mates(codes: &[u32], heads: &[u32], chain: &[u32], x: u32, y: u32, z: u32) -> u32
     requires { ⌜ Normal (now codes) ⌝ }
     requires { ⌜ Room (now codes) (length (now heads)) (length (now chain)) ⌝ }
-    requires { ⌜ Chained (now codes) (length (now heads)) (2 * length (now codes)) (now heads) (now chain) ⌝ }
+    requires { ⌜ HalvesChained (now codes) (length (now heads)) (2 * length (now codes)) (now heads) (now chain) ⌝ }
     requires { ⌜ (x ≤ maxCode) × (y ≤ maxCode) ⌝ }
     ensures { λ r. ⌜ r ≡ length (keep (isMate (now (codes .entry)) x y z) (allHalves (now (codes .entry)))) ⌝ }
     ensures { λ r. ⌜ r ≤ 32768 ⌝ }
@@ -192,7 +195,7 @@ fn count_mates(codes: &[u32], heads: &[u32], chain: &[u32], x: u32, y: u32, z: u
     while 0 < k {
         let j = k - 1;
         n += one_mate(codes, j, x, y, z);
-        k = chain[j] as usize - 1;
+        k = chain[j] as usize;
     }
     n
 }
@@ -237,7 +240,7 @@ fn if_plain(x: u32, y: u32, n: u32) -> u32
 fn sides_at(codes: &[u32], heads: &[u32], chain: &[u32], p: usize) -> Sides
     requires { ⌜ Normal (now codes) ⌝ }
     requires { ⌜ Room (now codes) (length (now heads)) (length (now chain)) ⌝ }
-    requires { ⌜ Chained (now codes) (length (now heads)) (2 * length (now codes)) (now heads) (now chain) ⌝ }
+    requires { ⌜ HalvesChained (now codes) (length (now heads)) (2 * length (now codes)) (now heads) (now chain) ⌝ }
     requires { ⌜ (p < length (now codes)) × (isPaired (now codes) p ≡ true) ⌝ }
     ensures { λ r. ⌜ r .mark ≡ sideMark (now (codes .entry)) p ⌝ }
     ensures { λ r. ⌜ r .plain ≡ length (pairsOf (now (codes .entry)) (halvesAt p)) ⌝ }
@@ -267,7 +270,7 @@ fn mark_sides(
 ) -> Counts
     requires { ⌜ Normal (now codes) ⌝ }
     requires { ⌜ Room (now codes) (length (now heads)) (length (now chain)) ⌝ }
-    requires { ⌜ Chained (now codes) (length (now heads)) (2 * length (now codes)) (now heads) (now chain) ⌝ }
+    requires { ⌜ HalvesChained (now codes) (length (now heads)) (2 * length (now codes)) (now heads) (now chain) ⌝ }
     requires { ⌜ (length (now codes) ≤ length (now marks)) × ((p : ℕ) → getD (now marks) p 0 < 2) ⌝ }
     requires { ⌜ counts .ites ≡ 0 ⌝ }
     ensures { λ r. ⌜ (r .ands ≡ counts .ands) × (r .xors ≡ counts .xors) ⌝ }
@@ -277,7 +280,7 @@ fn mark_sides(
     let mut found = counts;
     let mut p = 0;
     while p < codes.len() {
-        if 0 < chain[2 * p] {
+        if chain[2 * p] != UNCHAINED {
             let s = sides_at(codes, heads, chain, p);
             marks[p] = marks[p] + s.mark;
             found = found.with_ites(s.plain);

@@ -1,6 +1,7 @@
 // The gates found in a clause list.
 
 mod and;
+pub mod chain;
 pub mod counts;
 pub mod fill;
 pub mod finder;

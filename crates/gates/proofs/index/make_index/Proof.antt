@@ -9,7 +9,7 @@ use borrow.Author.Needs.{needs}
 use Rattle.gates.specs.Found.{clauseAt, Starts}
 use Rattle.gates.specs.Index.{buckets}
 use Rattle.gates.proofs.Buckets.{bucket-small}
-use Rattle.gates.proofs.Chains.{Chained, chained-none, chained-past, chained-put, chained-all, start-true, start-false}
+use Rattle.gates.proofs.ClauseChains.{Chained, chained-none, chained-past, chained-put, chained-all, start-true, start-false}
 use Rattle.gates.proofs.index.make_index.Statement.{statement}
 use Rattle.gates.proofs.index.make_index.Tie as tie
 

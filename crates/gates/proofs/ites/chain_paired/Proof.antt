@@ -6,14 +6,14 @@ use native.Mathlib.Omega.{arith}
 use lib.ListN.{length}
 use denote.Ref.{now}
 use Rattle.gates.specs.Mark.{startOf}
-use Rattle.gates.specs.Ites.{Chained}
+use Rattle.gates.specs.Ites.{HalvesChained}
 use Rattle.gates.proofs.HalfChains.{no-chain}
 use Rattle.gates.proofs.ites.chain_paired.Statement.{statement}
 use Rattle.gates.proofs.ites.chain_paired.Tie as tie
 
 abbrev Inv-loop : tie.InvT-loop
 Inv-loop codes index kinds heads₀ chain₀ b₀ p₀ heads chain b p =
-    (length heads ≡ length heads₀) × (length chain ≡ length chain₀) × (p ≤ length codes) × (b ≡ startOf codes p) × Chained codes (length heads₀) (2 * p) heads chain
+    (length heads ≡ length heads₀) × (length chain ≡ length chain₀) × (p ≤ length codes) × (b ≡ startOf codes p) × HalvesChained codes (length heads₀) (2 * p) heads chain
 
 abbrev μ-loop : tie.MeasureT-loop
 μ-loop codes index kinds heads₀ chain₀ b₀ p₀ heads chain b p = length codes - p

@@ -4,7 +4,7 @@ use Prim.Native.Nat.{_+_, _-_, _≤_}
 use native.Mathlib.Omega.{arith}
 use lib.ListN.{length}
 use denote.Ref.{now}
-use Rattle.gates.proofs.HalfChains.{in-chain, Walk, walk-begin, walk-next, walk-on, walk-falls, walk-few, walk-end}
+use Rattle.gates.proofs.HalfChains.{Walk, walk-begin, walk-on, walk-falls, walk-few, walk-end}
 use Rattle.gates.proofs.ites.count_mates.Statement.{statement}
 use Rattle.gates.proofs.ites.count_mates.Tie as tie
 
@@ -37,7 +37,7 @@ sub-j : tie.Need-sub-j Inv-loop μ-loop
 sub-j c = omega arith
 
 one-mate-requires : tie.Need-one-mate-requires Inv-loop μ-loop
-one-mate-requires c κs = in-chain _ _ _ _ (c .before .loop .inv .at (omega (arith, c .loop-test .taken)))
+one-mate-requires c κs = c .before .loop .inv .at (omega (arith, c .loop-test .taken)) .paired
 
 add-n : tie.Need-add-n Inv-loop μ-loop
 add-n c = omega (arith, fits c)
@@ -50,9 +50,6 @@ shared-slice-read-k-2 c = omega (arith, c .before .before .before .loop .inv .lo
 
 cast-k-2 : tie.Need-cast-k-2 Inv-loop μ-loop
 cast-k-2 c = omega (arith, c .shared-slice-known5 .given (c .before .before .before .loop .k - 1))
-
-sub-k : tie.Need-sub-k Inv-loop μ-loop
-sub-k c = omega (arith, walk-next _ _ _ _ _ (now (c .before .before .before .before .before .before .before .before .before .args .heads)) (now (c .before .before .before .before .before .before .before .before .before .args .chain)) (c .before .before .before .before .before .before .before .before .before .pre .1 .1 .0) _ _ (c .before .before .before .loop .inv) (omega (arith, c .before .before .loop-test .taken)))
 
 loop-less : tie.Need-loop-less Inv-loop μ-loop
 loop-less c = walk-falls _ _ _ _ _ (now (c .before .before .before .before .before .before .before .before .before .args .heads)) (now (c .before .before .before .before .before .before .before .before .before .args .chain)) (c .before .before .before .before .before .before .before .before .before .pre .1 .1 .0) _ _ (c .before .before .before .loop .inv) (omega (arith, c .before .before .loop-test .taken))
@@ -83,7 +80,6 @@ count-mates-spec =
     mul-k-2
     shared-slice-read-k-2
     cast-k-2
-    sub-k
     loop-less
     loop-again
     returns)

@@ -46,24 +46,24 @@ mul-z c = omega (arith, found (c .before .before) .after-in, c .before .before .
 shared-slice-read-z : tie.Need-shared-slice-read-z
 shared-slice-read-z c = found (c .before .before .before) .after-in
 
-mul-link : tie.Need-mul-link
-mul-link c = search needs
+mul-link-half : tie.Need-mul-link-half
+mul-link-half c = search needs
 
-link-requires : tie.Need-link-requires
-link-requires c κs =
+link-half-requires : tie.Need-link-half-requires
+link-half-requires c κs =
     let e : 2 * c .before .before .before .before .before .before .before .before .before .before .before .before .before .before .args .p / 2 ≡ c .before .before .before .before .before .before .before .before .before .before .before .before .before .before .args .p = omega arith in
     (c .before .before .before .before .before .before .before .before .before .before .before .before .before .before .pre .1 .0, (c .before .before .before .before .before .before .before .before .before .before .before .before .before .before .pre .1 .1 .1 .1 .0, (c .before .before .before .before .before .before .before .before .before .before .before .before .before .before .pre .1 .1 .1 .1 .1, ((omega (arith, c .before .before .before .before .before .before .before .before .before .before .before .before .before .before .pre .1 .1 .1 .0 .0), rw e (paired (c .before .before .before .before .before .before .before))), (rw e, even-output _ _ _ _ (found (c .before .before .before .before .before)))))))
 
-mul-link-2 : tie.Need-mul-link-2
-mul-link-2 c = search needs
+mul-link-half-2 : tie.Need-mul-link-half-2
+mul-link-half-2 c = search needs
 
-add-link : tie.Need-add-link
-add-link c = search needs
+add-link-half : tie.Need-add-link-half
+add-link-half c = search needs
 
-link-requires-2 : tie.Need-link-requires-2
-link-requires-2 c κs =
+link-half-requires-2 : tie.Need-link-half-requires-2
+link-half-requires-2 c κs =
     let e : (2 * c .before .before .before .before .before .before .before .before .before .before .before .before .before .before .before .before .before .before .before .before .before .args .p + 1) / 2 ≡ c .before .before .before .before .before .before .before .before .before .before .before .before .before .before .before .before .before .before .before .before .before .args .p = omega arith in
-    (c .before .before .before .before .before .before .before .before .before .before .before .before .before .before .before .before .before .before .before .before .before .pre .1 .0, (rw (c .before .before .before .before .before .before .link .kept .1 .1 .1 .1 .0, c .before .before .before .before .before .before .link .kept .1 .1 .1 .1 .1 .0) (c .before .before .before .before .before .before .before .before .before .before .before .before .before .before .before .before .before .before .before .before .before .pre .1 .1 .1 .1 .0), (rw (c .before .before .before .before .before .before .link .kept .1 .1 .1 .1 .0) (c .before .before .before .before .before .before .link .ensures), ((omega (arith, c .before .before .before .before .before .before .before .before .before .before .before .before .before .before .before .before .before .before .before .before .before .pre .1 .1 .1 .0 .0), rw e (paired (c .before .before .before .before .before .before .before .before .before .before .before .before .before .before))), (rw e, odd-output _ _ _ _ (found (c .before .before .before .before .before .before .before .before .before .before .before .before)))))))
+    (c .before .before .before .before .before .before .before .before .before .before .before .before .before .before .before .before .before .before .before .before .before .pre .1 .0, (rw (c .before .before .before .before .before .before .link-half .kept .1 .1 .1 .1 .0, c .before .before .before .before .before .before .link-half .kept .1 .1 .1 .1 .1 .0) (c .before .before .before .before .before .before .before .before .before .before .before .before .before .before .before .before .before .before .before .before .before .pre .1 .1 .1 .1 .0), (rw (c .before .before .before .before .before .before .link-half .kept .1 .1 .1 .1 .0) (c .before .before .before .before .before .before .link-half .ensures), ((omega (arith, c .before .before .before .before .before .before .before .before .before .before .before .before .before .before .before .before .before .before .before .before .before .pre .1 .1 .1 .0 .0), rw e (paired (c .before .before .before .before .before .before .before .before .before .before .before .before .before .before))), (rw e, odd-output _ _ _ _ (found (c .before .before .before .before .before .before .before .before .before .before .before .before)))))))
 
 mul-chain : tie.Need-mul-chain
 mul-chain c = search needs
@@ -95,7 +95,7 @@ same-length-2 c = search needs
 returns : tie.Need-returns
 returns c =
     let e : 2 * (c .before .before .before .before .before .before .before .before .before .before .before .before .before .before .before .before .before .before .before .before .before .before .before .before .before .before .args .p + 1) ≡ 2 * c .before .before .before .before .before .before .before .before .before .before .before .before .before .before .before .before .before .before .before .before .before .before .before .before .before .before .args .p + 1 + 1 = omega arith in
-    rw (e, ← c .before .before .before .before .before .before .before .before .before .before .before .link .kept .1 .1 .1 .1 .0) (c .before .before .before .before .link2 .ensures)
+    rw (e, ← c .before .before .before .before .before .before .before .before .before .before .before .link-half .kept .1 .1 .1 .1 .0) (c .before .before .before .before .link-half2 .ensures)
 
 same-length-3 : tie.Need-same-length-3
 same-length-3 c = search needs
@@ -116,11 +116,11 @@ link-place-spec =
     shared-slice-read-y
     mul-z
     shared-slice-read-z
-    mul-link
-    link-requires
-    mul-link-2
-    add-link
-    link-requires-2
+    mul-link-half
+    link-half-requires
+    mul-link-half-2
+    add-link-half
+    link-half-requires-2
     mul-chain
     mul-chain-2
     slice-write-chain

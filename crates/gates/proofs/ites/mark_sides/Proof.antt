@@ -63,7 +63,7 @@ loop-again c =
     (λ w.
     rw (w .1, w .2) (
       side-marking-on _ _ _ _ _ (turn .inv .0) (omega (arith, c .before .before .loop-test .taken))
-          (chained-unpaired _ _ _ _ _ (c .before .before .before .before .before .before .before .before .pre .1 .1 .0) _ (omega (arith, c .before .before .loop-test .taken)) (omega (arith, w .0 .left))),
+          (chained-unpaired _ _ _ _ _ (c .before .before .before .before .before .before .before .before .pre .1 .1 .0) _ (omega (arith, c .before .before .loop-test .taken)) (omega (arith, w .0 .left)) (omega (arith, c .before .before .before .before .before .before .before .before .pre .0 .entries))),
       turn .inv .1,
       turn .inv .2,
     ))

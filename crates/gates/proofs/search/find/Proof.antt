@@ -13,7 +13,7 @@ use Rattle.clauses.specs.Listing.{within, sameSet}
 use Rattle.gates.specs.Found.{clauseAt}
 use Rattle.gates.specs.Index.{buckets}
 use Rattle.gates.proofs.Buckets.{bucket-small}
-use Rattle.gates.proofs.Chains.{Searching, searching-first, searching-next, searching-falls}
+use Rattle.gates.proofs.ClauseChains.{Searching, searching-first, searching-next, searching-falls}
 use Rattle.gates.proofs.Places.{Ended, nowhere, there, ended-at, ended-nothing}
 use Rattle.gates.proofs.Walks.{all-end, all-no, all-on, same-no}
 use Rattle.gates.proofs.Queries.{same-ended, same-longer}
