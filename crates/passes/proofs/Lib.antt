@@ -21,7 +21,6 @@ pub mod AndPairs
 pub mod Maps
 pub mod Joining
 pub mod Making
-pub mod Chains
 pub mod SideSteps
 pub mod SideMatching
 pub mod WithoutGates

@@ -15,18 +15,19 @@ use Rattle.clauses.specs.Limit.{maxNets}
 use Rattle.clauses.specs.Code.{negate}
 use Rattle.clauses.proofs.Lists.{and-both}
 use Rattle.gates.specs.Found.{Found}
+use Rattle.gates.specs.Chains.{Chained}
+use Rattle.gates.proofs.Chains.{Walk, walk-map, walk-begin, walk-end, walk-next}
 use Rattle.rules.specs.Rule.{Concludes}
 use Rattle.rules.specs.Answer.{leadOf}
 use Rattle.passes.specs.Making.{Kernel, JoinedBy, Rule7, Rule8}
 use Rattle.passes.specs.RowJoined.{ItesJoined}
 use Rattle.passes.specs.Joining.{joinState}
 use Rattle.passes.specs.declared.tally.Tally.{Tally}
-use Rattle.passes.specs.Sides.{sideCount, selectAt, outputAt, thenAt, Sides, ListsMarked, Pair, Alike, isAlike, isHeld, Ready, Step, BySelect, ByMates, HasLater, OneOutput, Matched, Slotted, Served, Matching, SideDone, isPair, isSame, Chained, buckets, bucketOf, pairKey, alikeKey, keyOf}
+use Rattle.passes.specs.Sides.{sideCount, selectAt, outputAt, thenAt, Sides, ListsMarked, Pair, Alike, isAlike, isHeld, Ready, Step, BySelect, ByMates, HasLater, OneOutput, Matched, Slotted, Served, Matching, SideDone, isPair, isSame, buckets, bucketOf, pairKey, alikeKey, keyOf}
 use Rattle.passes.proofs.Maps.{zeros}
 use Rattle.passes.proofs.Joining.{lead-constant}
 use Rattle.passes.proofs.JoinedBy.{joined-sym, joined-trans}
 use Rattle.passes.proofs.SidePairs.{ite-pair, gate-marked, is-pair, pair-is, is-alike, alike-is}
-use Rattle.passes.proofs.Chains.{Walk, walk-map, walk-begin, walk-end, walk-next}
 use Rattle.passes.proofs.SideSteps.{kernel-true, lead-negate, alike-self, alike-back, alike-chain, step-none, step-then, ready-lead, join-step, join-joined, pairs-conclude}
 
 -- The entry of a slot
@@ -284,28 +285,28 @@ GroupTo sides old slots row t b i = Walk (keyOf sides old) (2 * sideCount sides)
 
 module _ (sides old heads next : List ℕ) (c : Chained (keyOf sides old) (2 * sideCount sides) heads next) where
   pub mates-begin : (slots row : List ℕ) (t : Tally) (b k : ℕ) → b < length heads → MatesTo sides old slots row t b k (getD heads b 0)
-  mates-begin slots row t b k = walk-begin (keyOf sides old) (2 * sideCount sides) b heads next c _
+  mates-begin slots row t b k = walk-begin _ (2 * sideCount sides) b heads next c _
 
   pub group-begin : (slots row : List ℕ) (t : Tally) (b i : ℕ) → b < length heads → GroupTo sides old slots row t b i (getD heads b 0)
-  group-begin slots row t b i = walk-begin (keyOf sides old) (2 * sideCount sides) b heads next c _
+  group-begin slots row t b i = walk-begin _ (2 * sideCount sides) b heads next c _
 
   pub mates-on : {slots row slots′ row′ : List ℕ} {t t′ : Tally} {b k m : ℕ} → MatesTo sides old slots row t b k m → 0 < m → Matching sides old k slots row t slots′ row′ t′
       → (Pair sides k ((m - 1) / 2) → Served sides old slots′ row′ t′ k ((m - 1) / 2)) → MatesTo sides old slots′ row′ t′ b k (getD next (m - 1) 0)
   mates-on {slots} {row} {slots′} {row′} {t} {t′} {b} {k} w h n d =
-      walk-next (keyOf sides old) (2 * sideCount sides) b heads next c
-      (walk-map (keyOf sides old) (2 * sideCount sides) b (λ i f p. served-on sides old n (alike-self sides old k) (f p)) w) h d
+      walk-next _ (2 * sideCount sides) b heads next c
+      (walk-map _ (2 * sideCount sides) b (λ i f p. served-on sides old n (alike-self sides old k) (f p)) w) h d
 
   pub mates-end : {slots row : List ℕ} {t : Tally} {b k m : ℕ} → MatesTo sides old slots row t b k m → m ≤ 0 → b ≡ bucketOf (negate (selectAt sides k)) (outputAt sides k)
       → (j : ℕ) → Pair sides k j → Served sides old slots row t k j
   mates-end {slots} {row} {t} {b} {k} w h e j p =
       let q : 2 * j / 2 ≡ j = omega arith in
-      rw q at (walk-end (keyOf sides old) (2 * sideCount sides) b w h (2 * j) (omega (arith, p .second)) (mate-key sides old k j p ∙ sym e) (rw q p))
+      rw q at (walk-end _ (2 * sideCount sides) b w h (2 * j) (omega (arith, p .second)) (mate-key sides old k j p ∙ sym e) (rw q p))
 
   pub group-on : {slots row slots′ row′ : List ℕ} {t t′ : Tally} {b i m : ℕ} → GroupTo sides old slots row t b i m → 0 < m → Matching sides old i slots row t slots′ row′ t′
       → SideDone sides old slots′ row′ t′ i ((m - 1) / 2) → GroupTo sides old slots′ row′ t′ b i (getD next (m - 1) 0)
   group-on {slots} {row} {slots′} {row′} {t} {t′} {b} w h n d =
-      walk-next (keyOf sides old) (2 * sideCount sides) b heads next c
-      (walk-map (keyOf sides old) (2 * sideCount sides) b (λ m f a j p. served-on sides old n a (f a j p)) w) h d
+      walk-next _ (2 * sideCount sides) b heads next c
+      (walk-map _ (2 * sideCount sides) b (λ m f a j p. served-on sides old n a (f a j p)) w) h d
 
   pub group-end : {slots row : List ℕ} {t : Tally} {b i m : ℕ} → GroupTo sides old slots row t b i m → m ≤ 0 → b ≡ keyOf sides old (2 * i + 1)
       → Matched sides old row t i
@@ -313,7 +314,7 @@ module _ (sides old heads next : List ℕ) (c : Chained (keyOf sides old) (2 * s
       all-matched sides old i
       (λ k a j p.
       let q : (2 * k + 1) / 2 ≡ k = omega arith in
-      let f : SideDone sides old slots row t i k = rw q at (walk-end (keyOf sides old) (2 * sideCount sides) b w h (2 * k + 1) (omega (arith, p .first)) (group-key sides old i k a ∙ sym (key-odd sides old i) ∙ sym e)) in
+      let f : SideDone sides old slots row t i k = rw q at (walk-end _ (2 * sideCount sides) b w h (2 * k + 1) (omega (arith, p .first)) (group-key sides old i k a ∙ sym (key-odd sides old i) ∙ sym e)) in
       f a j p)
 
 -- over the sides that can make an ITE with side k whose t and e have one lead
@@ -335,18 +336,18 @@ module _ (sides old : List ℕ) where
       → ByMates sides old row t k
   sames-end {b} {k} row t w h q j p e =
       let n : (2 * j + 1) / 2 ≡ j = omega arith in
-      absurd (not-same-pair sides old k j (rw n at (walk-end (keyOf sides old) (2 * sideCount sides) b w h (2 * j + 1) (omega (arith, p .second)) (same-key k j p e ∙ sym q))) p e)
+      absurd (not-same-pair sides old k j (rw n at (walk-end _ (2 * sideCount sides) b w h (2 * j + 1) (omega (arith, p .second)) (same-key k j p e ∙ sym q))) p e)
 
   pub mates-none : {b k m : ℕ} (row : List ℕ) (t : Tally) → SamesTo sides old b k m → m ≤ 0 → b ≡ bucketOf (negate (selectAt sides k)) (outputAt sides k) → ByMates sides old row t k
   mates-none {b} {k} row t w h q j p e =
       let n : 2 * j / 2 ≡ j = omega arith in
-      absurd (not-same-pair sides old k j (rw n at (walk-end (keyOf sides old) (2 * sideCount sides) b w h (2 * j) (omega (arith, p .second)) (mate-key sides old k j p ∙ sym q))) p e)
+      absurd (not-same-pair sides old k j (rw n at (walk-end _ (2 * sideCount sides) b w h (2 * j) (omega (arith, p .second)) (mate-key sides old k j p ∙ sym q))) p e)
 
   pub outputs-end : {b i m : ℕ} (row : List ℕ) → OutputsTo sides old row b i m → m ≤ 0 → b ≡ keyOf sides old (2 * i + 1) → OneOutput sides old row i
   outputs-end {b} {i} row w h q k l a =
       let n : (2 * k + 1) / 2 ≡ k = omega arith in
       let f : Alike sides old i k → leadOf row (outputAt sides k) ≡ leadOf row (outputAt sides i)
-      = rw n at (walk-end (keyOf sides old) (2 * sideCount sides) b w h (2 * k + 1) (omega arith) (group-key sides old i k a ∙ sym (key-odd sides old i) ∙ sym q)) in
+      = rw n at (walk-end _ (2 * sideCount sides) b w h (2 * k + 1) (omega arith) (group-key sides old i k a ∙ sym (key-odd sides old i) ∙ sym q)) in
       f a
 
 -- The two rules

@@ -9,7 +9,7 @@ use native.Mathlib.Omega.{arith}
 use native.Mathlib.Decide.{ℕ-discrete, decLt}
 use borrow.Author.Tests.{eq-eqb, eqb-true}
 use lib.Dec.{eqb}
-use lib.ListN.{length, getD, replicate, length-replicate, getD-replicate}
+use lib.ListN.{length, getD, replicate, length-replicate}
 use Rattle.clauses.specs.Listing.{Fits}
 use Rattle.gates.specs.Found.{clauseAt, Starts, LiteralAt, isXor}
 use Rattle.gates.specs.Sign.{flip}
@@ -78,12 +78,12 @@ module _ {row marks old : List ℕ} where
       advance k (omega arith) (λ b q x l h. literal-nonzero (x .place) (let i : q ≡ end = omega arith in ap (λ (i : ℕ). getD row i 0) i ∙ e))
 
   -- before the first place
-  pass-begins : (leads keys sums next heads : List ℕ) (t : Tally) → 0 < length heads → ((b : ℕ) → b < length heads → getD heads b 0 ≡ 0)
+  pass-begins : (leads keys sums next heads : List ℕ) (t : Tally) (n : ℕ) → 0 < n → heads ≡ replicate n 0
       → length row ≤ length keys → length row ≤ length sums → length keys ≤ length next
       → Matched row marks old 0 (record { leads = leads; keys = keys; sums = sums; next = next; heads = heads }) (record { tally = t; count = 0 })
-  pass-begins leads keys sums next heads t some none u v w =
+  pass-begins leads keys sums next heads t n some none u v w =
       record {
-        table = empty-table keys next heads some w none;
+        table = empty-table n keys next heads (rw (none, length-replicate {A = ℕ} n 0) some) w none;
         few = omega arith;
         keys-room = u;
         sums-room = v;
@@ -214,9 +214,7 @@ module _ {row marks old : List ℕ} {m₀ : Board} {t : Tally} where
         high = omega arith;
         behind = inl refl;
         none = λ i l. absurd (omega arith);
-        matched =
-            pass-begins (m₀ .leads) (m₀ .keys) (m₀ .sums) (m₀ .next) (m₀ .heads) t (rw (e, length-replicate {A = ℕ} n 0) some)
-            (λ b h. rw (e) (getD-replicate {A = ℕ} n b 0 0 (rw (e, length-replicate {A = ℕ} n 0) at h))) u v w;
+        matched = pass-begins (m₀ .leads) (m₀ .keys) (m₀ .sums) (m₀ .next) (m₀ .heads) t n some e u v w;
         went = record { making = λ cs d f g. g; later = λ a b j. j };
         kept = record { leads = refl; keys = refl; sums = refl; next = refl; heads = refl };
       }

@@ -9,8 +9,8 @@ use Prim.Native.Nat.{ℕ, _+_, _/_, _%_, _≤_, _<_}
 use lib.ListN.{length, getD}
 use Rattle.clauses.specs.Limit.{maxNets, maxEntries}
 use Rattle.clauses.specs.Code.{net}
+use Rattle.gates.specs.Chains.{Chained}
 use Rattle.gates.specs.Found.{clauseAt, Starts, LiteralAt, isAnd, isXor}
-use Rattle.passes.specs.Sides.{Chained}
 
 -- the net at place q
 abbrev pub netAt : List ℕ → ℕ → ℕ

@@ -184,18 +184,7 @@ pub record Matching (sides old : List ℕ) (k : ℕ) (slots row : List ℕ) (t :
 abbrev pub SideDone : List ℕ → List ℕ → List ℕ → List ℕ → Tally → ℕ → ℕ → Type 0
 SideDone sides old slots row t i k = Alike sides old i k → (j : ℕ) → Pair sides k j → Served sides old slots row t k j
 
--- Chains: numbers with the same key, from the last one down
-
--- k is the last number below m with key b, counted from 1; 0 where there is none
-pub record Last (key : ℕ → ℕ) (b m k : ℕ) : Type 0 where
-  pub low : k ≤ m
-  pub at : 0 < k → key (k - 1) ≡ b
-  pub none : (i : ℕ) → i < m → key i ≡ b → i < k
-
--- the chains of the numbers below m: for each key the last one, and for each number the one before it with the same key
-pub record Chained (key : ℕ → ℕ) (m : ℕ) (heads next : List ℕ) : Type 0 where
-  pub head : (b : ℕ) → b < length heads → Last key b m (getD heads b 0)
-  pub link : (i : ℕ) → i < m → Last key (key i) i (getD next i 0)
+-- The chains of the sides
 
 -- the buckets of the mates, and as many again of the sides that are alike
 abbrev pub buckets : ℕ

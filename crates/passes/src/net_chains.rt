@@ -7,24 +7,13 @@ ghost use mathlib.Core.Logic.{_⊎_};
 ghost use lib.ListN.{length, getD, replicate};
 ghost use Rattle.clauses.specs.Limit.{maxNets, maxEntries};
 ghost use Rattle.gates.specs.Found.{isAnd};
-ghost use Rattle.passes.specs.Sides.{Chained};
+ghost use Rattle.gates.specs.Chains.{Chained};
 ghost use Rattle.passes.specs.Parts.{Ended};
 ghost use Rattle.passes.specs.Indexing.{netAt, FirstTwo, Ties, ListedAt, Listed, Indexed};
 use clauses::limits::MAX_ENTRIES;
+use gates::chain::link;
 use gates::fill::fill;
 use gates::walk::clause_end;
-
-// Puts place q into the chain of its net.
-fn link(codes: &[u32], q: usize, heads: &mut [u32], next: &mut [u32])
-    requires { ⌜ (q < length (now codes)) × (length (now codes) ≤ maxEntries) × (length (now codes) ≤ length (now next)) ⌝ }
-    requires { ⌜ netAt (now codes) q < length (now heads) ⌝ }
-    requires { ⌜ Chained (netAt (now codes)) q (now heads) (now next) ⌝ }
-    ensures { λ _. ⌜ Chained (netAt (now (codes .entry))) (q + 1) (now (heads .exit)) (now (next .exit)) ⌝ }
-{
-    let w = (codes[q] / 2) as usize;
-    next[q] = heads[w];
-    heads[w] = (q + 1) as u32;
-}
 
 // The chains of all places.
 fn chain_places(codes: &[u32], heads: &mut [u32], next: &mut [u32])
@@ -35,7 +24,7 @@ fn chain_places(codes: &[u32], heads: &mut [u32], next: &mut [u32])
 {
     let mut q = 0;
     while q < codes.len() {
-        link(codes, q, heads, next);
+        link((codes[q] / 2) as usize, q, heads, next);
         q += 1;
     }
 }

@@ -1,13 +1,15 @@
 // Chains through a row of sides: those that can make an ITE with one, and those that are like one.
 
 ghost use mathlib.Core.Path.{_≡_};
-ghost use Prim.Native.Nat.{_+_, _*_, _≤_, _<_};
+ghost use Prim.Native.Nat.{_*_, _≤_, _<_};
 ghost use lib.ListN.{length, replicate};
-ghost use Rattle.passes.specs.Sides.{maxSides, sideCount, Chained, buckets, bucketOf, keyOf};
+ghost use Rattle.gates.specs.Chains.{Chained};
+ghost use Rattle.passes.specs.Sides.{maxSides, sideCount, buckets, bucketOf, keyOf};
 use crate::lead::lead_of;
 use crate::sides::output_of;
 use crate::sides::select_of;
 use crate::sides::then_of;
+use gates::chain::link;
 
 // The bucket of two codes.
 pub fn bucket(a: u32, b: u32) -> u32
@@ -31,18 +33,6 @@ pub fn key_of(sides: &[u32], old: &[u32], m: usize) -> usize
     4096 + bucket(lead_of(old, c), lead_of(old, then_of(sides, i))) as usize
 }
 
-// Puts number m into the chain of its key.
-fn link(sides: &[u32], old: &[u32], m: usize, heads: &mut [u32], next: &mut [u32])
-    requires { ⌜ (m < 2 * sideCount (now sides)) × (length (now sides) ≤ 3 * maxSides) ⌝ }
-    requires { ⌜ (length (now heads) ≡ 2 * buckets) × (length (now next) ≡ 2 * maxSides) ⌝ }
-    requires { ⌜ Chained (keyOf (now sides) (now old)) m (now heads) (now next) ⌝ }
-    ensures { λ _. ⌜ Chained (keyOf (now (sides .entry)) (now (old .entry))) (m + 1) (now (heads .exit)) (now (next .exit)) ⌝ }
-{
-    let b = key_of(sides, old, m);
-    next[m] = heads[b];
-    heads[b] = (m + 1) as u32;
-}
-
 // The chains of all sides.
 pub fn chain_sides(sides: &[u32], old: &[u32], heads: &mut [u32], next: &mut [u32])
     requires { ⌜ length (now sides) ≤ 3 * maxSides ⌝ }
@@ -52,7 +42,8 @@ pub fn chain_sides(sides: &[u32], old: &[u32], heads: &mut [u32], next: &mut [u3
     let n = 2 * (sides.len() / 3);
     let mut m = 0;
     while m < n {
-        link(sides, old, m, heads, next);
+        let b = key_of(sides, old, m);
+        link(b, m, heads, next);
         m += 1;
     }
 }

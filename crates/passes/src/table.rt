@@ -4,6 +4,7 @@ ghost use mathlib.Core.Path.{_≡_};
 ghost use Prim.Native.Nat.{_+_, _<_, _≤_};
 ghost use lib.ListN.{length, set};
 ghost use Rattle.passes.specs.Table.{Table, Looked};
+use gates::chain::link;
 
 // The slot, counted from 1, that holds a key; 0 where there is none.
 pub fn look_up(keys: &[u64], next: &[u32], heads: &[u32], count: usize, key: u64) -> usize
@@ -31,6 +32,5 @@ pub fn enter(keys: &mut [u64], next: &mut [u32], heads: &mut [u32], count: usize
 {
     let b = (key % (heads.len() as u64)) as usize;
     keys[count] = key;
-    next[count] = heads[b];
-    heads[b] = (count + 1) as u32;
+    link(b, count, heads, next);
 }

@@ -7,10 +7,10 @@ use native.Mathlib.Omega.{arith}
 use lib.ListN.{length}
 use denote.Ref.{now}
 use Rattle.clauses.proofs.Lists.{or-cases}
-use Rattle.passes.specs.Sides.{sideCount, keyOf}
+use Rattle.passes.specs.Sides.{sideCount}
 use Rattle.passes.proofs.SideSteps.{step-none, ready-joins, same-mates}
 use Rattle.passes.proofs.SideMatching.{SamesTo, sames-end, mates-none, neither-is, is-same}
-use Rattle.passes.proofs.Chains.{walk-begin, walk-next, walk-falls}
+use Rattle.gates.proofs.Chains.{walk-begin, walk-next, walk-falls}
 use Rattle.passes.proofs.ites.by_mates.Statement.{statement}
 use Rattle.passes.proofs.ites.by_mates.Tie as tie
 
@@ -75,8 +75,8 @@ loop-holds : tie.Need-loop-holds Inv-loop μ-loop
 loop-holds c =
     let s = c .before .before .before .before .before .before .before .before .before .before .before .before .before .before .before in (
       refl,
-      walk-begin (keyOf (now (s .args .sides)) (now (s .args .old))) (2 * sideCount (now (s .args .sides))) (c .before .before .before .before .before .bucket .result) (now (s .args .heads)) (now (s .args .next)) (s .pre .1 .1 .0) _ (omega (arith, c .before .before .before .before .before .bucket .ensures .1, s .pre .1 .0 .0)),
-      walk-begin (keyOf (now (s .args .sides)) (now (s .args .old))) (2 * sideCount (now (s .args .sides))) (4096 + c .before .before .bucket2 .result) (now (s .args .heads)) (now (s .args .next)) (s .pre .1 .1 .0) _ (omega (arith, c .before .before .bucket2 .ensures .1, s .pre .1 .0 .0)),
+      walk-begin _ (2 * sideCount (now (s .args .sides))) (c .before .before .before .before .before .bucket .result) (now (s .args .heads)) (now (s .args .next)) (s .pre .1 .1 .0) _ (omega (arith, c .before .before .before .before .before .bucket .ensures .1, s .pre .1 .0 .0)),
+      walk-begin _ (2 * sideCount (now (s .args .sides))) (4096 + c .before .before .bucket2 .result) (now (s .args .heads)) (now (s .args .next)) (s .pre .1 .1 .0) _ (omega (arith, c .before .before .bucket2 .ensures .1, s .pre .1 .0 .0)),
     )
 
 same-length : tie.Need-same-length Inv-loop μ-loop
@@ -146,7 +146,7 @@ cast-n-2 c = omega (arith, c .shared-slice-known8 .given (c .before .before .bef
 loop-less : tie.Need-loop-less Inv-loop μ-loop
 loop-less c =
     let s = c .before .before .before .before .before .before .before .before .before .before .before .before .before .before .before .before .before .before .before .before .before .before in
-    walk-falls (keyOf (now (s .args .sides)) (now (s .args .old))) (2 * sideCount (now (s .args .sides))) (c .before .before .before .before .before .before .before .before .before .before .before .before .bucket .result) (now (s .args .heads)) (now (s .args .next)) (s .pre .1 .1 .0) (c .before .before .before .before .before .before .loop .inv .1) (c .before .before .before .before .before .loop-test .taken)
+    walk-falls _ (2 * sideCount (now (s .args .sides))) (c .before .before .before .before .before .before .before .before .before .before .before .before .bucket .result) (now (s .args .heads)) (now (s .args .next)) (s .pre .1 .1 .0) (c .before .before .before .before .before .before .loop .inv .1) (c .before .before .before .before .before .loop-test .taken)
 
 loop-again : tie.Need-loop-again Inv-loop μ-loop
 loop-again c =
@@ -154,8 +154,8 @@ loop-again c =
     let l = c .before .before .before .before .before .before .loop in
     let none = neither-is _ _ (sym (c .before .before .before .is-either .ensures) ∙ c .before .before .if2 .left) in (
       l .inv .0,
-      walk-next (keyOf (now (s .args .sides)) (now (s .args .old))) (2 * sideCount (now (s .args .sides))) (c .before .before .before .before .before .before .before .before .before .before .before .before .bucket .result) (now (s .args .heads)) (now (s .args .next)) (s .pre .1 .1 .0) (l .inv .1) (c .before .before .before .before .before .loop-test .taken) (none .0),
-      walk-next (keyOf (now (s .args .sides)) (now (s .args .old))) (2 * sideCount (now (s .args .sides))) (4096 + c .before .before .before .before .before .before .before .before .before .bucket2 .result) (now (s .args .heads)) (now (s .args .next)) (s .pre .1 .1 .0) (l .inv .2) (omega (arith, c .before .before .before .before .if1 .left)) (none .1),
+      walk-next _ (2 * sideCount (now (s .args .sides))) (c .before .before .before .before .before .before .before .before .before .before .before .before .bucket .result) (now (s .args .heads)) (now (s .args .next)) (s .pre .1 .1 .0) (l .inv .1) (c .before .before .before .before .before .loop-test .taken) (none .0),
+      walk-next _ (2 * sideCount (now (s .args .sides))) (4096 + c .before .before .before .before .before .before .before .before .before .bucket2 .result) (now (s .args .heads)) (now (s .args .next)) (s .pre .1 .1 .0) (l .inv .2) (omega (arith, c .before .before .before .before .if1 .left)) (none .1),
     )
 
 same-length-3 : tie.Need-same-length-3 Inv-loop μ-loop

@@ -8,7 +8,7 @@ use denote.Ref.{now}
 use Rattle.passes.specs.Sides.{sideCount, keyOf, Matching}
 use Rattle.passes.proofs.SideSteps.{ready-on}
 use Rattle.passes.proofs.SideMatching.{matching-none, matching-then, GroupTo, group-begin, group-on, group-end}
-use Rattle.passes.proofs.Chains.{walk-falls}
+use Rattle.gates.proofs.Chains.{walk-falls}
 use Rattle.passes.proofs.ites.match_likes.Statement.{statement}
 use Rattle.passes.proofs.ites.match_likes.Tie as tie
 
@@ -71,7 +71,7 @@ cast-m-2 c = omega (arith, c .shared-slice-known6 .given (c .before .before .bef
 loop-less : tie.Need-loop-less Inv-loop μ-loop
 loop-less c =
     let s = c .before .before .before .before .before .before .before .before .before .before .before .before .before .before .before .before .before .before in
-    walk-falls (keyOf (now (s .args .sides)) (now (s .args .old))) (2 * sideCount (now (s .args .sides))) (keyOf (now (s .args .sides)) (now (s .args .old)) (2 * s .args .i + 1)) (now (s .args .heads)) (now (s .args .next)) (s .pre .1 .1 .1 .0)
+    walk-falls _ (2 * sideCount (now (s .args .sides))) (keyOf (now (s .args .sides)) (now (s .args .old)) (2 * s .args .i + 1)) (now (s .args .heads)) (now (s .args .next)) (s .pre .1 .1 .1 .0)
     (c .before .before .before .before .before .before .before .before .before .loop .inv .2) (c .before .before .before .before .before .before .before .before .loop-test .taken)
 
 loop-again : tie.Need-loop-again Inv-loop μ-loop

@@ -1,12 +1,12 @@
 -- `passes::net_chains::chain_places` meets its contract.
 -- Assumes nothing.
-use mathlib.Core.Path.{_≡_, refl, _∙_, ap}
+use mathlib.Core.Path.{_≡_, refl, sym, _∙_, ap}
 use Prim.Native.Nat.{ℕ, _-_, _≤_}
 use native.Mathlib.Omega.{arith}
 use lib.ListN.{length, length-replicate}
+use Rattle.gates.specs.Chains.{Chained}
+use Rattle.gates.proofs.Chains.{chain-none, chain-linked}
 use Rattle.passes.specs.Indexing.{netAt}
-use Rattle.passes.proofs.Chains.{chain-none}
-use Rattle.passes.specs.Sides.{Chained}
 use borrow.Author.Needs.{needs}
 use Rattle.passes.proofs.net_chains.chain_places.Statement.{statement}
 use Rattle.passes.proofs.net_chains.chain_places.Tie as tie
@@ -20,12 +20,21 @@ abbrev μ-loop : tie.MeasureT-loop
 loop-holds : tie.Need-loop-holds Inv-loop μ-loop
 loop-holds c = (refl, refl, omega arith, chain-none _ 1025 _ _ (c .before .before .before .pre .1 .0))
 
+mul-link : tie.Need-mul-link Inv-loop μ-loop
+mul-link c = search needs
+
+shared-slice-read-link : tie.Need-shared-slice-read-link Inv-loop μ-loop
+shared-slice-read-link c = search needs
+
+cast-link : tie.Need-cast-link Inv-loop μ-loop
+cast-link c = omega (arith, c .before .before .before .before .before .before .pre .1 .1 (c .before .before .loop .q))
+
 link-requires : tie.Need-link-requires Inv-loop μ-loop
 link-requires c κs =
-    let p = c .before .before .before .before .before .before .before .pre in
-    let l = c .before .before .before .loop in
+    let p = c .before .before .before .before .before .before .before .before .pre in
+    let l = c .before .before .before .before .loop in
     let s : length (l .heads) ≡ 1025 = l .inv .0 ∙ ap length (p .1 .0) ∙ length-replicate {A = ℕ} 1025 0 in
-    ((c .before .before .loop-test .taken, p .0 .0, omega arith), (omega (arith, p .1 .1 (l .q)), l .inv .3))
+    (omega (arith, p .1 .1 (l .q)), omega arith, omega arith)
 
 add-q : tie.Need-add-q Inv-loop μ-loop
 add-q c = search needs
@@ -34,7 +43,12 @@ loop-less : tie.Need-loop-less Inv-loop μ-loop
 loop-less c = search needs
 
 loop-again : tie.Need-loop-again Inv-loop μ-loop
-loop-again c = (omega arith, omega arith, omega arith, c .before .before .before .before .link .ensures)
+loop-again c =
+    let p = c .before .before .before .before .before .before .before .before .before .before .before .before .before .pre in
+    let l = c .before .before .before .before .before .before .before .before .before .loop in
+    let s : length (l .heads) ≡ 1025 = l .inv .0 ∙ ap length (p .1 .0) ∙ length-replicate {A = ℕ} 1025 0 in
+    let e = c .before .before .before .before .link .ensures in
+    (omega arith, omega arith, omega arith, chain-linked _ _ _ _ (l .inv .3) _ refl (λ x. sym) (omega (arith, p .1 .1 (l .q))) (omega arith) _ _ (e .0) (e .1))
 
 same-length : tie.Need-same-length Inv-loop μ-loop
 same-length c = search needs
@@ -52,6 +66,9 @@ chain-places-spec =
     Inv-loop
     μ-loop
     loop-holds
+    mul-link
+    shared-slice-read-link
+    cast-link
     link-requires
     add-q
     loop-less

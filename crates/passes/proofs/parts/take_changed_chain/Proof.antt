@@ -8,7 +8,7 @@ use Rattle.clauses.specs.Code.{net}
 use Rattle.passes.specs.Indexing.{netAt}
 use Rattle.passes.specs.Taking.{Keeps, SeesPlace, Taken}
 use Rattle.passes.proofs.Taking.{place-keeps}
-use Rattle.passes.proofs.Chains.{Walk, walk-map, walk-begin, walk-next, walk-falls, walk-end}
+use Rattle.gates.proofs.Chains.{Walk, walk-map, walk-begin, walk-next, walk-falls, walk-end}
 use borrow.Author.Needs.{needs}
 use Rattle.passes.proofs.parts.take_changed_chain.Statement.{statement}
 use Rattle.passes.proofs.parts.take_changed_chain.Tie as tie

@@ -7,7 +7,7 @@ use lib.ListN.{length}
 use Rattle.clauses.specs.Code.{net}
 use Rattle.passes.specs.Indexing.{netAt, startAt}
 use Rattle.passes.specs.Taking.{HasMark, Keeps, Due, Taken}
-use Rattle.passes.proofs.Chains.{Walk, walk-map, walk-begin, walk-next, walk-falls, walk-end}
+use Rattle.gates.proofs.Chains.{Walk, walk-map, walk-begin, walk-next, walk-falls, walk-end}
 use borrow.Author.Needs.{needs}
 use Rattle.passes.proofs.parts.take_due_chain.Statement.{statement}
 use Rattle.passes.proofs.parts.take_due_chain.Tie as tie

@@ -1,12 +1,13 @@
 -- `passes::side_chains::chain_sides` meets its contract.
 -- Assumes nothing.
-use mathlib.Core.Path.{_≡_, refl, _∙_, ap}
+use mathlib.Core.Path.{_≡_, refl, sym, _∙_, ap}
 use Prim.Native.Nat.{ℕ, _-_, _*_, _≤_}
 use native.Mathlib.Omega.{arith}
 use lib.ListN.{length, length-replicate}
 use denote.Ref.{now}
-use Rattle.passes.specs.Sides.{sideCount, keyOf, Chained}
-use Rattle.passes.proofs.Chains.{chain-none}
+use Rattle.gates.specs.Chains.{Chained}
+use Rattle.gates.proofs.Chains.{chain-none, chain-linked}
+use Rattle.passes.specs.Sides.{sideCount, keyOf}
 use Rattle.passes.proofs.side_chains.chain_sides.Statement.{statement}
 use Rattle.passes.proofs.side_chains.chain_sides.Tie as tie
 
@@ -22,17 +23,39 @@ mul-n c = omega arith
 loop-holds : tie.Need-loop-holds Inv-loop μ-loop
 loop-holds c = (refl, refl, omega arith, chain-none _ 8192 _ _ (c .before .before .before .before .pre .1 .0))
 
+key-of-requires : tie.Need-key-of-requires Inv-loop μ-loop
+key-of-requires c κs = c .loop-test .taken
+
+-- the heads and the links that are there
+heads-size : (c : tie.In-loop Inv-loop μ-loop) → length (c .before .loop .heads) ≡ 8192
+heads-size c = c .before .loop .inv .0 ∙ ap length (c .before .before .before .before .before .before .pre .1 .0) ∙ length-replicate {A = ℕ} 8192 0
+
+next-size : (c : tie.In-loop Inv-loop μ-loop) → length (c .before .loop .next) ≡ 65536
+next-size c = c .before .loop .inv .1 ∙ c .before .before .before .before .before .before .pre .1 .1
+
 link-requires : tie.Need-link-requires Inv-loop μ-loop
-link-requires c κs = ((c .before .before .loop-test .taken, c .before .before .before .before .before .before .before .before .pre .0), ((c .before .before .before .loop .inv .0 ∙ ap length (c .before .before .before .before .before .before .before .before .pre .1 .0) ∙ length-replicate {A = ℕ} 8192 0, c .before .before .before .loop .inv .1 ∙ c .before .before .before .before .before .before .before .before .pre .1 .1), c .before .before .before .loop .inv .3))
+link-requires c κs =
+    let t = c .before .before .before in
+    let p = c .before .before .before .before .before .before .before .before .before .pre .0 in
+    (omega (arith, heads-size t, c .before .before .key-of .ensures .1), omega (arith, next-size t, t .loop-test .taken, p), omega (arith, t .loop-test .taken, p))
 
 add-m : tie.Need-add-m Inv-loop μ-loop
-add-m c = omega (arith, c .before .before .before .before .before .before .before .loop-test .taken)
+add-m c = omega (arith, c .before .before .before .before .before .before .before .before .loop-test .taken)
 
 loop-less : tie.Need-loop-less Inv-loop μ-loop
-loop-less c = omega (arith, c .before .before .before .before .before .before .before .loop-test .taken)
+loop-less c = omega (arith, c .before .before .before .before .before .before .before .before .loop-test .taken)
 
 loop-again : tie.Need-loop-again Inv-loop μ-loop
-loop-again c = (c .before .before .before .before .link .kept .1 .1 .1 .0 ∙ c .before .before .before .before .before .before .before .before .loop .inv .0, c .before .before .before .before .link .kept .1 .1 .1 .1 .0 ∙ c .before .before .before .before .before .before .before .before .loop .inv .1, omega (arith, c .before .before .before .before .before .before .before .loop-test .taken), c .before .before .before .before .link .ensures)
+loop-again c =
+    let t = c .before .before .before .before .before .before .before .before in
+    let i = t .before .loop .inv in
+    let k = c .before .before .before .before .before .before .before .key-of .ensures in
+    let y = c .before .before .before .before .link in (
+      y .kept .1 .1 .0 ∙ i .0,
+      y .kept .1 .1 .1 .0 ∙ i .1,
+      omega (arith, t .loop-test .taken),
+      chain-linked _ _ _ _ (i .3) _ (sym (k .0)) (λ x d. sym d ∙ sym (k .0)) (omega (arith, heads-size t, k .1)) (omega (arith, next-size t, t .loop-test .taken, c .before .before .before .before .before .before .before .before .before .before .before .before .before .before .pre .0)) _ _ (y .ensures .0) (y .ensures .1),
+    )
 
 same-length : tie.Need-same-length Inv-loop μ-loop
 same-length c = c .before .loop .inv .0
@@ -51,6 +74,7 @@ chain-sides-spec =
     μ-loop
     mul-n
     loop-holds
+    key-of-requires
     link-requires
     add-m
     loop-less

@@ -6,7 +6,8 @@ use native.Mathlib.Nat.{mod-lt}
 use borrow.Author.Needs.{needs}
 use lib.ListN.{length}
 use denote.Ref.{now}
-use Rattle.passes.proofs.Tables.{Looking, look-begin, look-on, look-falls, look-hit, look-miss}
+use Rattle.gates.proofs.Chains.{walk-begin, walk-next, walk-falls}
+use Rattle.passes.proofs.Tables.{Looking, look-hit, look-miss}
 use Rattle.passes.proofs.table.look_up.Statement.{statement}
 use Rattle.passes.proofs.table.look_up.Tie as tie
 
@@ -29,7 +30,7 @@ cast-k : tie.Need-cast-k Inv-loop μ-loop
 cast-k c = omega (arith, c .shared-slice-known .given (c .before .args .key % length (now (c .before .args .heads))))
 
 loop-holds : tie.Need-loop-holds Inv-loop μ-loop
-loop-holds c = let s = c .before in look-begin (s .pre) (s .args .key)
+loop-holds c = let s = c .before in walk-begin _ _ _ _ _ (s .pre .chains) _ (mod-lt (s .args .key) (s .pre .some))
 
 sub-at : tie.Need-sub-at Inv-loop μ-loop
 sub-at c = search needs
@@ -41,7 +42,7 @@ shared-slice-read-if1 : tie.Need-shared-slice-read-if1 Inv-loop μ-loop
 shared-slice-read-if1 c = omega (arith, c .before .before .loop .inv .low, c .before .before .before .before .pre .low, c .before .loop-test .taken)
 
 returns : tie.Need-returns Inv-loop μ-loop
-returns c = let s = c .before .before .before .before .before in look-hit (s .pre) (s .args .key) (c .before .before .before .loop .inv) (c .before .before .loop-test .taken) (c .if1 .taken)
+returns c = look-hit _ (c .before .before .before .loop .inv) (c .before .before .loop-test .taken) (c .if1 .taken)
 
 mul-k-2 : tie.Need-mul-k-2 Inv-loop μ-loop
 mul-k-2 c = omega (arith, c .before .before .before .loop .inv .low, c .before .before .before .before .before .pre .low, c .before .before .before .before .before .pre .room, c .before .before .before .before .before .good, c .before .before .loop-test .taken)
@@ -53,13 +54,13 @@ cast-k-2 : tie.Need-cast-k-2 Inv-loop μ-loop
 cast-k-2 c = omega (arith, c .shared-slice-known3 .given (c .before .before .before .before .loop .k - 1))
 
 loop-less : tie.Need-loop-less Inv-loop μ-loop
-loop-less c = let s = c .before .before .before .before .before .before in look-falls (s .pre) (s .args .key) (c .before .before .before .before .loop .inv) (c .before .before .before .loop-test .taken)
+loop-less c = let s = c .before .before .before .before .before .before in walk-falls _ _ _ _ _ (s .pre .chains) (c .before .before .before .before .loop .inv) (c .before .before .before .loop-test .taken)
 
 loop-again : tie.Need-loop-again Inv-loop μ-loop
-loop-again c = let s = c .before .before .before .before .before .before in look-on (s .pre) (s .args .key) (c .before .before .before .before .loop .inv) (c .before .before .before .loop-test .taken) (c .before .if1 .left)
+loop-again c = let s = c .before .before .before .before .before .before in walk-next _ _ _ _ _ (s .pre .chains) (c .before .before .before .before .loop .inv) (c .before .before .before .loop-test .taken) (c .before .if1 .left)
 
 returns-2 : tie.Need-returns-2 Inv-loop μ-loop
-returns-2 c = let s = c .before .before .before in look-miss (s .pre) (s .args .key) (c .before .loop .inv) (omega (arith, c .loop-test .left))
+returns-2 c = look-miss _ (c .before .loop .inv) (omega (arith, c .loop-test .left))
 
 pub look-up-spec : {M : Type 1} → statement M
 look-up-spec =
