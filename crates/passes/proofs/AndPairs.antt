@@ -7,8 +7,7 @@ use mathlib.Core.List.{List}
 use Prim.Native.Nat.{ℕ, _+_, _-_, _%_, _≤_, _<_}
 use native.Mathlib.Omega.{arith}
 use native.Mathlib.Decide.{ℕ-discrete, decLt}
-use lib.ListN.{length, getD, set, length-set}
-use lib.Seq.{getD-set-same, getD-set-other}
+use lib.ListN.{length, getD, set, replicate, length-set}
 use Rattle.clauses.specs.Code.{negate, net}
 use Rattle.clauses.proofs.Codes.{negate-negate}
 use Rattle.clauses.specs.Clause.{Same}
@@ -19,13 +18,14 @@ use Rattle.gates.proofs.Rows.{literal-some}
 use Rattle.gates.proofs.Walking.{literal-inside}
 use Rattle.gates.specs.Mark.{startOf}
 use Rattle.gates.proofs.StartOf.{literal-start}
+use Rattle.gates.proofs.Chains.{chain-none, chain-passed, chain-linked, WalkIn, walk-end}
 use Rattle.rules.specs.Rule.{Concludes, Covers}
 use Rattle.rules.specs.Answer.{leadOf}
 use Rattle.passes.specs.Making.{Kernel, Drawn, Making, JoinedBy, Later, Rule4}
 use Rattle.passes.specs.Joining.{joinState}
 use Rattle.passes.specs.Passing.{leadAt}
 use Rattle.passes.specs.Marked.{Marked, Ready, Went}
-use Rattle.passes.specs.Matching.{AndAt, Takes, Within, Alike, Leads, mix, Largest, Bucket, Last, none, at, Table, Told, Matched}
+use Rattle.passes.specs.Matching.{AndAt, Takes, Within, Alike, Leads, mix, Largest, Bucket, FirstIn, Table, Told, Matched}
 use Rattle.passes.specs.declared.and_pairs.Match.the-variants.{Absent, With, First}
 use Rattle.passes.specs.declared.tally.Tally.{Tally}
 use Rattle.passes.proofs.Starts.{start-is}
@@ -206,103 +206,33 @@ rule4 {cs} {row} {marks} {old} {new} {t} found joined = record { and-and = λ c 
 
 -- The table
 
-module _ {row marks old : List ℕ} {m : ℕ} where
-  last-skip : {h i v : ℕ} → Last row marks old m h i v → (Leads row marks old i → ¬ Bucket row old m i h) → Last row marks old m h (i + 1) v
-  last-skip {h} {i} (none z f) n = none z (λ r l a. go r l a (ℕ-discrete r i))
-    where
-      go : (r : ℕ) → r < i + 1 → Leads row marks old r → Dec (r ≡ i) → ¬ Bucket row old m r h
-      go r l a (no d) = f r (omega arith) a
-      go r l a (yes d) = subst⁻¹ (λ (x : ℕ). ¬ Bucket row old m x h) d (n (subst (Leads row marks old) d a))
-  last-skip {h} {i} (at r z l a b f) n = at r z (omega arith) a b (λ s k j c. go s k j c (ℕ-discrete s i))
-    where
-      go : (s : ℕ) → r < s → s < i + 1 → Leads row marks old s → Dec (s ≡ i) → ¬ Bucket row old m s h
-      go s k j c (no d) = f s k (omega arith) c
-      go s k j c (yes d) = subst⁻¹ (λ (x : ℕ). ¬ Bucket row old m x h) d (n (subst (Leads row marks old) d c))
+module _ {row marks old : List ℕ} {m : ℕ} {heads next : List ℕ} {p : ℕ} (t : Table row marks old m heads next p) where
+  pub table-skip : ¬ Leads row marks old p → Table row marks old m heads next (p + 1)
+  table-skip n = record { size = t .size; room = t .room; chains = chain-passed _ p heads next (t .chains) (λ h d. n (d .leads)) }
 
-  module _ {heads next : List ℕ} {p : ℕ} (t : Table row marks old m heads next p) where
-    pub table-skip : ¬ Leads row marks old p → Table row marks old m heads next (p + 1)
-    table-skip n = record { size = t .size; room = t .room; head = λ h l. last-skip (t .head h l) (λ a. absurd (n a)); after = λ r h l a b. go r h l a b (ℕ-discrete r p) }
-      where
-        go : (r h : ℕ) → r < p + 1 → Leads row marks old r → Bucket row old m r h → Dec (r ≡ p) → Last row marks old m h r (getD next r 0)
-        go r h l a b (yes d) = absurd (n (subst (Leads row marks old) d a))
-        go r h l a b (no d) = t .after r h (omega arith) a b
-
-    pub table-enter : (h : ℕ) → h < m → p < length row → Leads row marks old p → Bucket row old m p h
-        → (heads′ next′ : List ℕ) → heads′ ≡ set heads h (p + 1) → next′ ≡ set next p (getD heads h 0) → Table row marks old m heads′ next′ (p + 1)
-    table-enter h l k a b heads′ next′ e f =
-        record {
-          size = ap length e ∙ length-set heads h (p + 1) ∙ t .size;
-          room = omega (arith, ap length f, length-set next p (getD heads h 0), t .room);
-          head = λ g i. rw e (head g i (ℕ-discrete g h));
-          after = λ r g i c d. rw f (after r g i c d (ℕ-discrete r p));
-        }
-      where
-        head : (g : ℕ) → g < m → Dec (g ≡ h) → Last row marks old m g (p + 1) (getD (set heads h (p + 1)) g 0)
-        head g i (yes d) =
-            at p (rw d (getD-set-same heads h (p + 1) 0 (omega (arith, t .size)))) (omega arith) a (subst⁻¹ (Bucket row old m p) d b) (λ s x y c. absurd (omega arith))
-        head g i (no n) = rw (getD-set-other heads h g (p + 1) 0 n) (last-skip (t .head g i) (λ c d. n (bucket-once d b)))
-
-        after : (r g : ℕ) → r < p + 1 → Leads row marks old r → Bucket row old m r g → Dec (r ≡ p)
-            → Last row marks old m g r (getD (set next p (getD heads h 0)) r 0)
-        after r g i c d (yes z) =
-            let same : g ≡ h = bucket-once (subst (λ (x : ℕ). Bucket row old m x g) z d) b in
-            rw (z, getD-set-same next p (getD heads h 0) 0 (omega (arith, t .room)), same) (t .head h l)
-        after r g i c d (no n) = rw (getD-set-other next p r (getD heads h 0) 0 n) (t .after r g (omega arith) c d)
+  pub table-enter : (h : ℕ) → h < m → p < length row → Leads row marks old p → Bucket row old m p h
+      → (heads′ next′ : List ℕ) → heads′ ≡ set heads h (p + 1) → next′ ≡ set next p (getD heads h 0) → Table row marks old m heads′ next′ (p + 1)
+  table-enter h l k a b heads′ next′ e f =
+      record {
+        size = ap length e ∙ length-set heads h (p + 1) ∙ t .size;
+        room = omega (arith, ap length f, length-set next p (getD heads h 0), t .room);
+        chains =
+            chain-linked _ p heads next (t .chains) h (record { leads = a; bucket = b }) (λ g d. bucket-once (d .bucket) b) (omega (arith, t .size)) (omega (arith, t .room))
+            heads′ next′ e f;
+      }
 
 -- The search in the table
 
-module _ (row marks old : List ℕ) (m h p : ℕ) where
-  -- no place of the bucket from i on has the set, and k is the last one below i
-  pub record Looking (k : ℕ) : Type 0 where
-    pub i : ℕ
-    pub low : i ≤ p
-    pub last : Last row marks old m h i k
-    pub passed : (s : ℕ) → i ≤ s → s < p → Leads row marks old s → Bucket row old m s h → ¬ Alike row old s p
+-- along the chain of bucket h only other sets have been met
+abbrev pub Looking : List ℕ → List ℕ → List ℕ → ℕ → ℕ → ℕ → ℕ → Type 0
+Looking row marks old m h p = WalkIn (FirstIn row marks old m) p h (λ s. ¬ Alike row old s p)
 
-module _ {row marks old : List ℕ} {m h p : ℕ} where
-  pub look-begin : {heads next : List ℕ} → Table row marks old m heads next p → h < m → Looking row marks old m h p (getD heads h 0)
-  look-begin t l = record { i = p; low = omega arith; last = t .head h l; passed = λ s a b. absurd (omega arith) }
+module _ {row marks old : List ℕ} {m h p k : ℕ} (w : Looking row marks old m h p k) where
+  pub look-found : 0 < k → AndAt row marks p → Alike row old (k - 1) p → Told row marks old m p (With (k - 1))
+  look-found l d a = (d, omega (arith, w .low), w .at l .leads, a)
 
-  -- the place at hand
-  pub look-at : {k : ℕ} → Looking row marks old m h p k → 0 < k → (k - 1 < p) × Leads row marks old (k - 1) × Bucket row old m (k - 1) h
-  look-at {k} w l = go (w .last)
-    where
-      go : Last row marks old m h (w .i) k → (k - 1 < p) × Leads row marks old (k - 1) × Bucket row old m (k - 1) h
-      go (none z f) = absurd (omega arith)
-      go (at r z j a b f) =
-          let e : k - 1 ≡ r = omega arith in
-          (omega (arith, w .low), subst⁻¹ (Leads row marks old) e a, subst⁻¹ (λ (x : ℕ). Bucket row old m x h) e b)
-
-  pub look-found : {k : ℕ} → Looking row marks old m h p k → 0 < k → AndAt row marks p → Alike row old (k - 1) p → Told row marks old m p (With (k - 1))
-  look-found w l d a = let c = look-at w l in (d, c .0, c .1, a)
-
-  pub look-on : {heads next : List ℕ} {k : ℕ} → Table row marks old m heads next p → Looking row marks old m h p k → 0 < k → ¬ Alike row old (k - 1) p
-      → Looking row marks old m h p (getD next (k - 1) 0)
-  look-on {next = next} {k = k} t w l n =
-      let c = look-at w l in
-      record { i = k - 1; low = omega (arith, c .0); last = t .after (k - 1) h (c .0) (c .1) (c .2); passed = λ s a b d e. go (w .last) s a b d e (ℕ-discrete s (k - 1)) (decLt s (w .i)) }
-    where
-      go : Last row marks old m h (w .i) k → (s : ℕ) → k - 1 ≤ s → s < p → Leads row marks old s → Bucket row old m s h → Dec (s ≡ k - 1) → Dec (s < w .i) → ¬ Alike row old s p
-      go q s a b d e (yes z) x = subst⁻¹ (λ (y : ℕ). ¬ Alike row old y p) z n
-      go q s a b d e (no z) (no x) = w .passed s (omega arith) b d e
-      go (none z f) s a b d e (no y) (yes x) = absurd (omega arith)
-      go (at r z j u v f) s a b d e (no y) (yes x) = absurd (f s (omega arith) x d e)
-
-  -- the search goes down
-  pub look-falls : {heads next : List ℕ} {k : ℕ} → Table row marks old m heads next p → Looking row marks old m h p k → 0 < k → getD next (k - 1) 0 < k
-  look-falls {next = next} {k = k} t w l = let c = look-at w l in go (t .after (k - 1) h (c .0) (c .1) (c .2))
-    where
-      go : Last row marks old m h (k - 1) (getD next (k - 1) 0) → getD next (k - 1) 0 < k
-      go (none z f) = omega arith
-      go (at r z j a b f) = omega arith
-
-  pub look-none : {k : ℕ} → Looking row marks old m h p k → k ≡ 0 → AndAt row marks p → h < m → Bucket row old m p h → Told row marks old m p (First h)
-  look-none {k} w z d i b = (d, i, b, λ s l a e. go (w .last) s l a e (bucket-move (alike-back e) b) (decLt s (w .i)))
-    where
-      go : Last row marks old m h (w .i) k → (s : ℕ) → s < p → Leads row marks old s → Alike row old s p → Bucket row old m s h → Dec (s < w .i) → ⊥
-      go q s l a e c (no x) = w .passed s (omega arith) l a c e
-      go (none y f) s l a e c (yes x) = f s x a c
-      go (at r y j u v f) s l a e c (yes x) = omega arith
+  pub look-none : k ≤ 0 → AndAt row marks p → h < m → Bucket row old m p h → Told row marks old m p (First h)
+  look-none z d i b = (d, i, b, λ s l a e. walk-end _ _ _ w z s l (record { leads = a; bucket = bucket-move (alike-back e) b }) e)
 
 -- What has been matched
 
@@ -368,9 +298,8 @@ module _ {row marks old new : List ℕ} {t : Tally} (ready : Ready row marks old
 
 -- The table at first
 
-pub table-begin : {row marks old heads next : List ℕ} → length row ≤ length next → ((h : ℕ) → getD heads h 0 ≡ 0) → Table row marks old (length heads) heads next 0
-table-begin l z =
-    record { size = refl; room = l; head = λ h i. none (z h) (λ r k. absurd (omega arith)); after = λ r h k. absurd (omega arith) }
+pub table-begin : {row marks old heads next : List ℕ} → length row ≤ length next → (n : ℕ) → heads ≡ replicate n 0 → Table row marks old (length heads) heads next 0
+table-begin l n e = record { size = refl; room = l; chains = chain-none _ n _ _ e }
 
 pub table-size : {row marks old heads next : List ℕ} {m i : ℕ} → Table row marks old m heads next i → Table row marks old (length heads) heads next i
 table-size {row} {marks} {old} {heads} {next} {i = i} t = subst⁻¹ (λ (n : ℕ). Table row marks old n heads next i) (t .size) t

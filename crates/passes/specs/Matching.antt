@@ -9,6 +9,7 @@ use lib.Dec.{eqb}
 use lib.ListN.{length, getD}
 use Rattle.gates.specs.Found.{clauseAt, LiteralAt, isAnd}
 use Rattle.gates.specs.Mark.{startOf}
+use Rattle.gates.specs.Chains.{ChainedIn}
 use Rattle.passes.specs.Making.{JoinedBy}
 use Rattle.passes.specs.Passing.{leadAt}
 use Rattle.passes.specs.Holding.{Holds}
@@ -72,21 +73,18 @@ pub record Bucket (row old : List ℕ) (m p h : ℕ) : Type 0 where
   pub fourth : Largest row old 30011 p four
   pub is : h ≡ (((one * 31 + two) * 31 + three) * 31 + four) % m
 
--- The table: heads has for each bucket the last place in it, next for each place the one before it in its bucket; 0 for none, else the
--- place plus 1
+-- The table: the ANDs that are the first with their sets, chained by the buckets of these
 
--- v is the last place below i in bucket h of m
-pub data Last (row marks old : List ℕ) (m h i v : ℕ) : Type 0 where
-  none : v ≡ 0 → ((r : ℕ) → r < i → Leads row marks old r → ¬ Bucket row old m r h) → Last row marks old m h i v
-  at : (r : ℕ) → v ≡ r + 1 → r < i → Leads row marks old r → Bucket row old m r h
-      → ((s : ℕ) → r < s → s < i → Leads row marks old s → ¬ Bucket row old m s h) → Last row marks old m h i v
+-- the AND at p is the first one with its set, and this belongs to bucket h of m
+pub record FirstIn (row marks old : List ℕ) (m p h : ℕ) : Type 0 where
+  pub leads : Leads row marks old p
+  pub bucket : Bucket row old m p h
 
 -- the places below i are in the table
 pub record Table (row marks old : List ℕ) (m : ℕ) (heads next : List ℕ) (i : ℕ) : Type 0 where
   pub size : length heads ≡ m
   pub room : length row ≤ length next
-  pub head : (h : ℕ) → h < m → Last row marks old m h i (getD heads h 0)
-  pub after : (r h : ℕ) → r < i → Leads row marks old r → Bucket row old m r h → Last row marks old m h r (getD next r 0)
+  pub chains : ChainedIn (FirstIn row marks old m) i heads next
 
 -- what a search for the set at p among the places before it has told
 abbrev pub Told : List ℕ → List ℕ → List ℕ → ℕ → ℕ → Match → Type 0

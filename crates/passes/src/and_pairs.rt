@@ -10,6 +10,7 @@ ghost use Rattle.passes.specs.Marked.{Marked, Ready, Went};
 use crate::and_sets::bucket;
 use crate::and_sets::is_alike;
 use crate::tally::Tally;
+use gates::chain::link;
 use gates::fill::fill;
 
 // Buckets of the table.
@@ -84,8 +85,7 @@ fn match_at(
         Match::Absent => t,
         Match::With(r) => t.join(new, codes[p], codes[r]),
         Match::First(h) => {
-            next[p] = heads[h];
-            heads[h] = (p + 1) as u32;
+            link(h, p, heads, next);
             t
         }
     }

@@ -5,9 +5,10 @@ use Prim.Native.Nat.{_-_}
 use borrow.Author.Needs.{needs}
 use native.Mathlib.Omega.{arith}
 use lib.ListN.{length}
+use Rattle.gates.proofs.Chains.{walk-begin, walk-next, walk-falls}
 use Rattle.passes.specs.Holding.{Blank}
 use Rattle.passes.proofs.AndOutputs.{told-true, told-false}
-use Rattle.passes.proofs.AndPairs.{absent-ending, absent-mark, and-here, Looking, look-begin, look-at, look-found, look-on, look-falls, look-none}
+use Rattle.passes.proofs.AndPairs.{absent-ending, absent-mark, and-here, Looking, look-found, look-none}
 use Rattle.passes.proofs.and_pairs.look_up.Statement.{statement}
 use Rattle.passes.proofs.and_pairs.look_up.Tie as tie
 
@@ -45,14 +46,14 @@ cast-k : tie.Need-cast-k Inv-loop μ-loop
 cast-k c = omega (arith, c .shared-slice-known8 .given (c .before .bucket .result))
 
 loop-holds : tie.Need-loop-holds Inv-loop μ-loop
-loop-holds c = (look-begin (c .before .before .before .before .before .before .before .before .before .before .before .before .pre .1 .1 .0) (c .before .bucket .ensures .1), refl, c .before .before .before .before .before .before .before .before .before .before .before .before .pre .1 .1 .1 .1)
+loop-holds c = (walk-begin _ _ _ _ _ (c .before .before .before .before .before .before .before .before .before .before .before .before .pre .1 .1 .0 .chains) _ (c .before .bucket .ensures .1), refl, c .before .before .before .before .before .before .before .before .before .before .before .before .pre .1 .1 .1 .1)
 
 sub-is-alike : tie.Need-sub-is-alike Inv-loop μ-loop
 sub-is-alike c = search needs
 
 is-alike-requires : tie.Need-is-alike-requires Inv-loop μ-loop
 is-alike-requires c κs =
-    ((look-at (c .before .before .loop .inv .0) (c .before .loop-test .taken) .1 .and .placed, (and-here (c .before .before .before .before .before .before .before .before .before .before .before .before .before .before .before .pre .0 .1) (c .before .before .before .before .before .before .before .before .before .before .before .before .before .before .before .pre .1 .0 .1) (c .before .before .before .before .before .before .before .if1 .left) (c .before .before .before .before .before .if2 .left)) .placed), (c .before .before .before .before .before .before .before .before .before .before .before .before .before .before .before .pre .1 .1 .1 .0, c .before .before .loop .inv .2))
+    ((c .before .before .loop .inv .0 .at (c .before .loop-test .taken) .leads .and .placed, (and-here (c .before .before .before .before .before .before .before .before .before .before .before .before .before .before .before .pre .0 .1) (c .before .before .before .before .before .before .before .before .before .before .before .before .before .before .before .pre .1 .0 .1) (c .before .before .before .before .before .before .before .if1 .left) (c .before .before .before .before .before .if2 .left)) .placed), (c .before .before .before .before .before .before .before .before .before .before .before .before .before .before .before .pre .1 .1 .1 .0, c .before .before .loop .inv .2))
 
 sub-t23 : tie.Need-sub-t23 Inv-loop μ-loop
 sub-t23 c = search needs
@@ -70,20 +71,20 @@ sub-k : tie.Need-sub-k Inv-loop μ-loop
 sub-k c = search needs
 
 mul-k-2 : tie.Need-mul-k-2 Inv-loop μ-loop
-mul-k-2 c = let s = c .before .before .before .before .before .before .before .before .before .before .before .before .before .before .before .before .before .before .before in omega (arith, look-at (c .before .before .before .before .before .before .loop .inv .0) (c .before .before .before .before .before .loop-test .taken) .0, s .pre .1 .0 .1, s .pre .1 .1 .0 .room, s .good)
+mul-k-2 c = let s = c .before .before .before .before .before .before .before .before .before .before .before .before .before .before .before .before .before .before .before in omega (arith, c .before .before .before .before .before .before .loop .inv .0 .low, c .before .before .before .before .before .loop-test .taken, s .pre .1 .0 .1, s .pre .1 .1 .0 .room, s .good)
 
 shared-slice-read-k-2 : tie.Need-shared-slice-read-k-2 Inv-loop μ-loop
-shared-slice-read-k-2 c = let s = c .before .before .before .before .before .before .before .before .before .before .before .before .before .before .before .before .before .before .before .before in omega (arith, look-at (c .before .before .before .before .before .before .before .loop .inv .0) (c .before .before .before .before .before .before .loop-test .taken) .0, s .pre .1 .0 .1, s .pre .1 .1 .0 .room)
+shared-slice-read-k-2 c = let s = c .before .before .before .before .before .before .before .before .before .before .before .before .before .before .before .before .before .before .before .before in omega (arith, c .before .before .before .before .before .before .before .loop .inv .0 .low, c .before .before .before .before .before .before .loop-test .taken, s .pre .1 .0 .1, s .pre .1 .1 .0 .room)
 
 cast-k-2 : tie.Need-cast-k-2 Inv-loop μ-loop
 cast-k-2 c = omega (arith, c .shared-slice-known9 .given (c .before .before .before .before .before .before .before .loop .k - 1))
 
 loop-less : tie.Need-loop-less Inv-loop μ-loop
-loop-less c = look-falls (c .before .before .before .before .before .before .before .before .before .before .before .before .before .before .before .before .before .before .before .before .pre .1 .1 .0) (c .before .before .before .before .before .before .before .loop .inv .0) (c .before .before .before .before .before .before .loop-test .taken)
+loop-less c = walk-falls _ _ _ _ _ (c .before .before .before .before .before .before .before .before .before .before .before .before .before .before .before .before .before .before .before .before .pre .1 .1 .0 .chains) (c .before .before .before .before .before .before .before .loop .inv .0) (c .before .before .before .before .before .before .loop-test .taken)
 
 loop-again : tie.Need-loop-again Inv-loop μ-loop
 loop-again c = (
-  look-on (c .before .before .before .before .before .before .before .before .before .before .before .before .before .before .before .before .before .before .before .before .pre .1 .1 .0) (c .before .before .before .before .before .before .before .loop .inv .0) (c .before .before .before .before .before .before .loop-test .taken) (told-false (c .before .if3 .left) (c .before .before .before .before .is-alike .ensures .0)),
+  walk-next _ _ _ _ _ (c .before .before .before .before .before .before .before .before .before .before .before .before .before .before .before .before .before .before .before .before .pre .1 .1 .0 .chains) (c .before .before .before .before .before .before .before .loop .inv .0) (c .before .before .before .before .before .before .loop-test .taken) (told-false (c .before .if3 .left) (c .before .before .before .before .is-alike .ensures .0)),
   c .before .before .before .before .is-alike .kept .1 .1 .1 .1 .0 ∙ c .before .before .before .before .before .before .before .loop .inv .1,
   c .before .before .before .before .is-alike .ensures .1,
 )

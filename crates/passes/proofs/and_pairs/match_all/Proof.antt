@@ -10,7 +10,6 @@ use lib.ListN.{length}
 use Rattle.passes.specs.Holding.{Blank}
 use Rattle.passes.specs.Marked.{Went}
 use Rattle.passes.specs.Matching.{Table, Matched}
-use Rattle.passes.proofs.Maps.{zeros}
 use Rattle.passes.proofs.AndPairs.{matched-pairs, table-begin, table-size, absent-mark, step-absent}
 use Rattle.passes.proofs.Going.{went-none, went-then, went-making, went-size, ready-on}
 use Rattle.passes.proofs.and_pairs.match_all.Statement.{statement}
@@ -30,7 +29,7 @@ loop-holds : tie.Need-loop-holds Inv-loop μ-loop
 loop-holds c = let s = c .before .before .before .before .before .before .before .before .before .before .before in (
   refl,
   refl,
-  table-begin (s .pre .1 .0 .1) (λ h. rw (c .before .before .fill .ensures) (zeros (length (now (s .args .heads))) h)),
+  table-begin (s .pre .1 .0 .1) (length (now (s .args .heads))) (c .before .before .fill .ensures),
   went-none,
   λ q l. absurd (omega arith),
   refl,

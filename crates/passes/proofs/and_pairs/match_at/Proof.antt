@@ -1,6 +1,6 @@
 -- `passes::and_pairs::match_at` meets its contract.
 -- Assumes nothing.
-use mathlib.Core.Path.{refl, subst}
+use mathlib.Core.Path.{subst}
 use Prim.Native.Nat.{_<_}
 use native.Mathlib.Omega.{arith}
 use lib.ListN.{length}
@@ -46,37 +46,10 @@ join-requires c κs = ready-joins (c .before .before .before .before .before .be
 enum-known-found-2 : tie.Need-enum-known-found-2
 enum-known-found-2 c = search needs
 
-mul-next : tie.Need-mul-next
-mul-next c = let s = c .before .before .before .before .before .before .before .before .before .before .before .before .before .before .before .before in
-    let told = subst (Told (now (s .args .codes)) (now (s .args .marks)) (now (s .args .old)) (length (now (s .args .heads))) (s .args .p)) (c .before .found2 .given .1) (c .before .before .before .before .before .look-up .ensures .0) in
-    omega (arith, told .1, s .good)
-
-slice-read-next : tie.Need-slice-read-next
-slice-read-next c = let s = c .before .before .before .before .before .before .before .before .before .before .before .before .before .before .before .before .before in
-    let told = subst (Told (now (s .args .codes)) (now (s .args .marks)) (now (s .args .old)) (length (now (s .args .heads))) (s .args .p)) (c .before .before .found2 .given .1) (c .before .before .before .before .before .before .look-up .ensures .0) in
-    told .1
-
-mul-next-2 : tie.Need-mul-next-2
-mul-next-2 c = search needs
-
-slice-write-next : tie.Need-slice-write-next
-slice-write-next c = search needs
-
-add-heads : tie.Need-add-heads
-add-heads c = search needs
-
-cast-heads : tie.Need-cast-heads
-cast-heads c = search needs
-
-mul-heads : tie.Need-mul-heads
-mul-heads c = let s = c .before .before .before .before .before .before .before .before .before .before .before .before .before .before .before .before .before in
-    let told = subst (Told (now (s .args .codes)) (now (s .args .marks)) (now (s .args .old)) (length (now (s .args .heads))) (s .args .p)) (c .before .before .found2 .given .1) (c .before .before .before .before .before .before .look-up .ensures .0) in
-    omega (arith, told .1, s .good)
-
-slice-write-heads : tie.Need-slice-write-heads
-slice-write-heads c = let s = c .before .before .before .before .before .before .before .before .before .before .before .before .before .before .before .before .before in
-    let told = subst (Told (now (s .args .codes)) (now (s .args .marks)) (now (s .args .old)) (length (now (s .args .heads))) (s .args .p)) (c .before .before .found2 .given .1) (c .before .before .before .before .before .before .look-up .ensures .0) in
-    told .1
+link-requires : tie.Need-link-requires
+link-requires c κs = let s = c .before .before .before .before .before .before .before .before .before .before .before .before .before .before .before .before .before .before in
+    let told = subst (Told (now (s .args .codes)) (now (s .args .marks)) (now (s .args .old)) (length (now (s .args .heads))) (s .args .p)) (c .before .before .before .found2 .given .1) (c .before .before .before .before .before .before .before .look-up .ensures .0) in
+    (told .1, omega (arith, s .pre .1 .0 .1, s .pre .1 .1 .0 .room), omega (arith, s .pre .1 .0 .1, s .pre .0 .entries))
 
 same-length : tie.Need-same-length
 same-length c = search needs
@@ -121,10 +94,11 @@ same-length-10 : tie.Need-same-length-10
 same-length-10 c = search needs
 
 returns-3 : tie.Need-returns-3
-returns-3 c = let s = c .before .before .before .before .before .before .before .before .before .before .before .before .before .before .before .before .before in
-    let told = subst (Told (now (s .args .codes)) (now (s .args .marks)) (now (s .args .old)) (length (now (s .args .heads))) (s .args .p)) (c .before .before .found2 .given .1) (c .before .before .before .before .before .before .look-up .ensures .0) in
-    let k = step-first (s .pre .0) (s .pre .1 .1 .1 .0) (s .pre .1 .1 .0) _ told _ _ refl refl in
-    (k .0, (k .1 .0, (k .1 .1, c .before .before .before .before .before .before .look-up .ensures .1)))
+returns-3 c = let s = c .before .before .before .before .before .before .before .before .before .before .before .before .before .before .before .before .before .before .before .before .before .before .before in
+    let told = subst (Told (now (s .args .codes)) (now (s .args .marks)) (now (s .args .old)) (length (now (s .args .heads))) (s .args .p)) (c .before .before .before .before .before .before .before .before .found2 .given .1) (c .before .before .before .before .before .before .before .before .before .before .before .before .look-up .ensures .0) in
+    let e = c .before .before .before .before .link .ensures in
+    let k = step-first (s .pre .0) (s .pre .1 .1 .1 .0) (s .pre .1 .1 .0) _ told _ _ (e .0) (e .1) in
+    (k .0, (k .1 .0, (k .1 .1, c .before .before .before .before .before .before .before .before .before .before .before .before .look-up .ensures .1)))
 
 pub match-at-spec : {M : Type 1} → statement M
 match-at-spec =
@@ -139,14 +113,7 @@ match-at-spec =
     shared-slice-read-join-2
     join-requires
     enum-known-found-2
-    mul-next
-    slice-read-next
-    mul-next-2
-    slice-write-next
-    add-heads
-    cast-heads
-    mul-heads
-    slice-write-heads
+    link-requires
     same-length
     same-length-2
     same-length-3
