@@ -1,9 +1,10 @@
 -- `passes::net_chains::chain_places` meets its contract.
 -- Assumes nothing.
 use mathlib.Core.Path.{_≡_, refl, sym, _∙_, ap}
-use Prim.Native.Nat.{ℕ, _-_, _≤_}
+use Prim.Native.Nat.{ℕ, _-_, _≤_, _<_}
 use native.Mathlib.Omega.{arith}
 use lib.ListN.{length, length-replicate}
+use denote.Ref.{now}
 use Rattle.gates.specs.Chains.{Chained}
 use Rattle.gates.proofs.Chains.{chain-none, chain-linked}
 use Rattle.passes.specs.Indexing.{netAt}
@@ -29,12 +30,15 @@ shared-slice-read-link c = search needs
 cast-link : tie.Need-cast-link Inv-loop μ-loop
 cast-link c = omega (arith, c .before .before .before .before .before .before .pre .1 .1 (c .before .before .loop .q))
 
+-- the net at hand has a head
+inside : (c : tie.In-loop Inv-loop μ-loop) → netAt (now (c .before .before .before .before .before .args .codes)) (c .before .loop .q) < length (c .before .loop .heads)
+inside c =
+    let p = c .before .before .before .before .before .pre in
+    let s : length (c .before .loop .heads) ≡ 1025 = c .before .loop .inv .0 ∙ ap length (p .1 .0) ∙ length-replicate {A = ℕ} 1025 0 in
+    omega (arith, p .1 .1 (c .before .loop .q))
+
 link-requires : tie.Need-link-requires Inv-loop μ-loop
-link-requires c κs =
-    let p = c .before .before .before .before .before .before .before .before .pre in
-    let l = c .before .before .before .before .loop in
-    let s : length (l .heads) ≡ 1025 = l .inv .0 ∙ ap length (p .1 .0) ∙ length-replicate {A = ℕ} 1025 0 in
-    (omega (arith, p .1 .1 (l .q)), omega arith, omega arith)
+link-requires c κs = (inside (c .before .before .before), omega arith, omega arith)
 
 add-q : tie.Need-add-q Inv-loop μ-loop
 add-q c = search needs
@@ -44,11 +48,8 @@ loop-less c = search needs
 
 loop-again : tie.Need-loop-again Inv-loop μ-loop
 loop-again c =
-    let p = c .before .before .before .before .before .before .before .before .before .before .before .before .before .pre in
-    let l = c .before .before .before .before .before .before .before .before .before .loop in
-    let s : length (l .heads) ≡ 1025 = l .inv .0 ∙ ap length (p .1 .0) ∙ length-replicate {A = ℕ} 1025 0 in
     let e = c .before .before .before .before .link .ensures in
-    (omega arith, omega arith, omega arith, chain-linked _ _ _ _ (l .inv .3) _ refl (λ x. sym) (omega (arith, p .1 .1 (l .q))) (omega arith) _ _ (e .0) (e .1))
+    (omega arith, omega arith, omega arith, chain-linked _ _ _ _ (c .before .before .before .before .before .before .before .before .before .loop .inv .3) _ refl (λ x. sym) (inside (c .before .before .before .before .before .before .before .before)) (omega arith) _ _ (e .0) (e .1))
 
 same-length : tie.Need-same-length Inv-loop μ-loop
 same-length c = search needs
