@@ -19,25 +19,25 @@ use Rattle.rules.specs.Answer.{leadOf}
 use Rattle.passes.specs.Making.{Kernel, JoinedBy}
 use Rattle.passes.specs.Passing.{AndJoined}
 use Rattle.passes.specs.Matching.{AndAt, HasLead, Takes, Alike}
-use Rattle.passes.specs.Parts.{Changed, Shares, SharesTwo, TiedAt}
+use Rattle.passes.specs.Parts.{ChangedIn, Shares, SharesTwo, TiedAt}
 use Rattle.passes.specs.declared.tally.Tally.{Tally}
 use Rattle.passes.proofs.Searches.{lead-false, lead-true, lead-negate}
 use Rattle.passes.proofs.JoinedBy.{joined-old, joined-back, joined-chain, joined-same}
 use Rattle.passes.proofs.PartMarks.{across, copy-literal, across-code, across-mark}
 use Rattle.passes.proofs.PartPlaces.{and-copied, and-at-copied, alike-copied}
-use Rattle.passes.proofs.UnchangedClauses.{all-or-some, Unchanged, unchanged-or-changed, InputsUnchanged, inputs-unchanged-or-changed, joined-before, and-unchanged, alike-before}
-use Rattle.passes.proofs.PartRounds.{PartRound, Both, Pair, unchanged, copied, apart, changed-copied, pair-of}
+use Rattle.passes.proofs.UnchangedClauses.{all-or-some, InputsUnchanged, inputs-unchanged-or-changed, joined-before, and-unchanged, alike-before}
+use Rattle.passes.proofs.PartRounds.{PartRound, Both, Pair, unchanged, copied, apart, tie-copied, pair-of}
 
 module _ {cs : List (List ℕ)} {row marks part partMarks older old new : List ℕ} {t : Tally} (r : PartRound cs row marks part partMarks older old new t) where
   -- Rule 3
 
   pub ands-joined : (b p : ℕ) → LiteralAt row b p → isAnd (getD marks p 0) ≡ true → AndJoined row old new t b p
-  ands-joined b p k i = go (unchanged-or-changed row older old b (k .start))
+  ands-joined b p k i = go (inputs-unchanged-or-changed older old (r .marked) b p k i)
     where
-      go : Unchanged row older old b ⊎ Changed row older old b → AndJoined row old new t b p
-      go (inl c) = and-unchanged c (r .making) (r .before .ands b p k i)
+      go : InputsUnchanged row older old b p ⊎ ChangedIn (TiedAt row marks) row older old b → AndJoined row old new t b p
+      go (inl c) = and-unchanged (r .making) (k .start) c (r .before .ands b p k i)
       go (inr s) =
-          let f = changed-copied r s in
+          let f = tie-copied r s in
           and-copied (f .1) k (r .here .ands (f .0) (across b (f .0) p) (copy-literal (f .1) k) (ap isAnd (across-mark (f .1) k) ∙ i))
 
   -- What an AND whose inputs have leads of one net only, constants aside, joins its output to
@@ -204,10 +204,10 @@ module _ {cs : List (List ℕ)} {row marks part partMarks older old new : List �
 
     pub and-pairs-joined : JoinedBy new t (getD row p 0) (getD row q 0)
     and-pairs-joined =
-        go (pair-of r (startOf row p) (startOf row q) (a .placed .at .start) (d .placed .at .start) (inputs-unchanged-or-changed older old (r .marked) p a)
-        (inputs-unchanged-or-changed older old (r .marked) q d))
+        go (pair-of r (startOf row p) (startOf row q) (a .placed .at .start) (d .placed .at .start) (inputs-unchanged-or-changed older old (r .marked) (startOf row p) p (a .placed .at) (a .mark))
+        (inputs-unchanged-or-changed older old (r .marked) (startOf row q) q (d .placed .at) (d .mark)))
       where
-        go : Pair row marks part partMarks old (InputsUnchanged row older old p) (InputsUnchanged row older old q) (startOf row p) (startOf row q)
+        go : Pair row marks part partMarks old (InputsUnchanged row older old (startOf row p) p) (InputsUnchanged row older old (startOf row q) q) (startOf row p) (startOf row q)
             → JoinedBy new t (getD row p 0) (getD row q 0)
         go (unchanged c e) = joined-before (r .making) _ _ (r .before .and-pairs p q a d (alike-before c e alike))
         go (copied c) = copies-joined c

@@ -12,26 +12,26 @@ use Rattle.rules.specs.Answer.{leadOf}
 use Rattle.passes.specs.Making.{Kernel, JoinedBy}
 use Rattle.passes.specs.Passing.{leadAt}
 use Rattle.passes.specs.RowJoined.{SideAt, IteAt, ItesJoined}
-use Rattle.passes.specs.Parts.{Changed, Shares, SelectAt, select}
+use Rattle.passes.specs.Parts.{ChangedIn, Shares, SelectAt, ReadAt, side, select}
 use Rattle.passes.specs.declared.tally.Tally.{Tally}
 use Rattle.passes.proofs.Searches.{lead-true, lead-negate}
 use Rattle.passes.proofs.JoinedBy.{joined-old, joined-back, joined-chain}
 use Rattle.passes.proofs.PartPlaces.{side-copied}
-use Rattle.passes.proofs.UnchangedClauses.{Unchanged, unchanged-or-changed, kernel-before, kept-true, joined-before, select-kept, side-kept}
-use Rattle.passes.proofs.PartRounds.{PartRound, active-copied, changed-copied}
+use Rattle.passes.proofs.UnchangedClauses.{SideUnchanged, side-unchanged-or-changed, kernel-before, kept-true, joined-before}
+use Rattle.passes.proofs.PartRounds.{PartRound, active-copied}
 
--- a changed clause with a select whose lead is of net w
+-- a clause with a select whose lead is of net w, of which a lead that rules 7 and 8 read has changed
 record ChangedWith (row marks older old : List ℕ) (w : ℕ) : Type 0 where
   clause : ℕ
-  changed : Changed row older old clause
+  changed : ChangedIn (ReadAt row marks) row older old clause
   place : ℕ
   at : SelectAt row marks clause place
   lead : net (leadAt row old place) ≡ w
 
--- neither side of the ITE has moved
-record UnchangedIte {row marks : List ℕ} (older old : List ℕ) {l c u e : ℕ} (i : IteAt row marks l c u e) : Type 0 where
-  thens : Unchanged row older old (i .then-side .start)
-  elses : Unchanged row older old (i .else-side .start)
+-- no lead of the ITE's select and data has changed
+record UnchangedIte (older old : List ℕ) (c u e : ℕ) : Type 0 where
+  thens : SideUnchanged older old c u
+  elses : SideUnchanged older old (negate c) e
 
 inverse-lead : (old : List ℕ) (c : ℕ) → net (leadOf old (negate c)) ≡ net (leadOf old c)
 inverse-lead old c = ap net (lead-negate old c) ∙ net-negate (leadOf old c)
@@ -55,22 +55,20 @@ module _ {cs : List (List ℕ)} {row marks part partMarks older old new : List �
   -- Rule 7, by the select
 
   selects : (l c u : ℕ) → SideAt row marks l c u → Kernel old c 1 → JoinedBy new t l u
-  selects l c u s k = go (unchanged-or-changed row older old (s .start) (s .at .start))
+  selects l c u s k = go (side-unchanged-or-changed older old (r .marked) s)
     where
-      go : Unchanged row older old (s .start) ⊎ Changed row older old (s .start) → JoinedBy new t l u
-      go (inl h) =
-          joined-before (r .making) l u
-          (r .before .ites .selects l c u s (kernel-before older old c 1 (select-kept s h) (kept-true older old) k))
-      go (inr h) = r .here .ites .selects l c u (side-copied (r .marked) s (changed-copied r h .1)) k
+      go : SideUnchanged older old c u ⊎ ChangedIn (ReadAt row marks) row older old (s .start) → JoinedBy new t l u
+      go (inl h) = joined-before (r .making) l u (r .before .ites .selects l c u s (kernel-before older old c 1 (h .select) (kept-true older old) k))
+      go (inr h) = r .here .ites .selects l c u (side-copied (r .marked) s (active-copied r (s .start) (s .at .start) (side h) .1)) k
 
   -- The sides whose selects have one lead are all copied if one of them is changed
 
-  unchanged-or-with : {l c u e : ℕ} (i : IteAt row marks l c u e) → UnchangedIte older old i ⊎ ChangedWith row marks older old (net (leadOf old c))
-  unchanged-or-with {c = c} i =
-      go (unchanged-or-changed row older old (i .then-side .start) (i .then-side .at .start)) (unchanged-or-changed row older old (i .else-side .start) (i .else-side .at .start))
+  unchanged-or-with : {l c u e : ℕ} (i : IteAt row marks l c u e) → UnchangedIte older old c u e ⊎ ChangedWith row marks older old (net (leadOf old c))
+  unchanged-or-with {c = c} {u = u} {e = e} i = go (side-unchanged-or-changed older old (r .marked) (i .then-side)) (side-unchanged-or-changed older old (r .marked) (i .else-side))
     where
-      go : Unchanged row older old (i .then-side .start) ⊎ Changed row older old (i .then-side .start)
-          → Unchanged row older old (i .else-side .start) ⊎ Changed row older old (i .else-side .start) → UnchangedIte older old i ⊎ ChangedWith row marks older old (net (leadOf old c))
+      go : SideUnchanged older old c u ⊎ ChangedIn (ReadAt row marks) row older old (i .then-side .start)
+          → SideUnchanged older old (negate c) e ⊎ ChangedIn (ReadAt row marks) row older old (i .else-side .start)
+          → UnchangedIte older old c u e ⊎ ChangedWith row marks older old (net (leadOf old c))
       go (inl h) (inl k) = inl (record { thens = h; elses = k })
       go (inr h) k = inr (record { clause = i .then-side .start; changed = h; place = i .then-side .place; at = select-at (i .then-side); lead = select-lead old (i .then-side) })
       go (inl h) (inr k) =
@@ -110,13 +108,13 @@ module _ {cs : List (List ℕ)} {row marks part partMarks older old new : List �
     thens : JoinedBy new t l u
     thens = go (ℕ-discrete (net (leadOf old c)) 0) (unchanged-or-with i)
       where
-        go : Dec (net (leadOf old c) ≡ 0) → UnchangedIte older old i ⊎ ChangedWith row marks older old (net (leadOf old c)) → JoinedBy new t l u
+        go : Dec (net (leadOf old c) ≡ 0) → UnchangedIte older old c u e ⊎ ChangedWith row marks older old (net (leadOf old c)) → JoinedBy new t l u
         go (yes z) h = thens-constant z
         go (no n) (inr h) = r .here .ites .thens l c u e (ite-in-part n h refl i) k
         go (no n) (inl h) =
             joined-before (r .making) l u
             (r .before .ites .thens l c u e i
-            (kernel-before older old u e (side-kept (i .then-side) (h .thens) (r .marked)) (side-kept (i .else-side) (h .elses) (r .marked)) k))
+            (kernel-before older old u e (h .thens .then) (h .elses .then) k))
 
   -- Rule 8
 
@@ -139,7 +137,7 @@ module _ {cs : List (List ℕ)} {row marks part partMarks older old new : List �
         by-part : {w : ℕ} → w ≢ 0 → ChangedWith row marks older old w → net (leadOf old c) ≡ w → JoinedBy new t l m
         by-part n h q = r .here .ites .outputs l c u e m d v f (ite-in-part n h q i) (ite-in-part n h (sym (ap net cd) ∙ q) j) cd uv ef
 
-        go : Dec (net (leadOf old c) ≡ 0) → UnchangedIte older old i ⊎ ChangedWith row marks older old (net (leadOf old c)) → UnchangedIte older old j ⊎ ChangedWith row marks older old (net (leadOf old d))
+        go : Dec (net (leadOf old c) ≡ 0) → UnchangedIte older old c u e ⊎ ChangedWith row marks older old (net (leadOf old c)) → UnchangedIte older old d v f ⊎ ChangedWith row marks older old (net (leadOf old d))
             → JoinedBy new t l m
         go (yes z) h k = outputs-constant z
         go (no n) (inr h) k = by-part n h refl
@@ -147,9 +145,9 @@ module _ {cs : List (List ℕ)} {row marks part partMarks older old new : List �
         go (no n) (inl h) (inl k) =
             joined-before (r .making) l m
             (r .before .ites .outputs l c u e m d v f i j
-            (kernel-before older old c d (select-kept (i .then-side) (h .thens)) (select-kept (j .then-side) (k .thens)) cd)
-            (kernel-before older old u v (side-kept (i .then-side) (h .thens) (r .marked)) (side-kept (j .then-side) (k .thens) (r .marked)) uv)
-            (kernel-before older old e f (side-kept (i .else-side) (h .elses) (r .marked)) (side-kept (j .else-side) (k .elses) (r .marked)) ef))
+            (kernel-before older old c d (h .thens .select) (k .thens .select) cd)
+            (kernel-before older old u v (h .thens .then) (k .thens .then) uv)
+            (kernel-before older old e f (h .elses .then) (k .elses .then) ef))
 
   pub ites-joined : ItesJoined row marks old new t
   ites-joined = record { selects = selects; thens = thens; outputs = outputs }

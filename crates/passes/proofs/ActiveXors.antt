@@ -15,36 +15,36 @@ use Rattle.passes.specs.Making.{JoinedBy}
 use Rattle.passes.specs.Passing.{leadAt}
 use Rattle.passes.specs.Xors.{oddNets, packed, Digits, XorAt, restAt, keyAt, sumAt}
 use Rattle.passes.specs.RowJoined.{XorsJoined}
-use Rattle.passes.specs.Parts.{ChangedIn, Changed, Shares, SharesTwo, TiedAt}
+use Rattle.passes.specs.Parts.{ChangedIn, Shares, SharesTwo, TiedAt}
 use Rattle.passes.specs.declared.tally.Tally.{Tally}
 use Rattle.passes.proofs.OddNets.{TwoNets, odd-two, odd-digits, odd-leads, packed-unique}
 use Rattle.passes.proofs.JoinedBy.{joined-back, joined-chain, joined-same}
 use Rattle.passes.proofs.PartMarks.{across}
 use Rattle.passes.proofs.PartPlaces.{key-copied, sum-copied, xor-at-copied}
 use Rattle.passes.proofs.UnchangedClauses.{Unchanged, unchanged-or-changed, rest-in, joined-before, key-before, sum-before}
-use Rattle.passes.proofs.PartRounds.{PartRound, Pair, unchanged, copied, apart, net-in, changed-copied, pair-of}
+use Rattle.passes.proofs.PartRounds.{PartRound, Pair, unchanged, copied, apart, net-in, tie-copied, pair-of}
 
 module _ {cs : List (List ℕ)} {row marks part partMarks older old new : List ℕ} {t : Tally} (r : PartRound cs row marks part partMarks older old new t) where
   -- Rule 5
-
-  alone : (b p : ℕ) → XorAt row marks b p → keyAt old row b p < 65536 → JoinedBy new t (sumAt old row b p) (2 * keyAt old row b p)
-  alone b p x h = go (unchanged-or-changed row older old b (x .place .start))
-    where
-      go : Unchanged row older old b ⊎ Changed row older old b → JoinedBy new t (sumAt old row b p) (2 * keyAt old row b p)
-      go (inl c) =
-          joined-same (r .making) (sum-before c p) (ap (λ (k : ℕ). 2 * k) (key-before c p))
-          (joined-before (r .making) _ _ (r .before .xors .alone b p x (subst⁻¹ (λ (k : ℕ). k < 65536) (key-before c p) h)))
-      go (inr s) =
-          let f = changed-copied r s in
-          joined-same (r .making) (sum-copied (f .1) (x .place) old) (ap (λ (k : ℕ). 2 * k) (key-copied (f .1) (x .place) old))
-          (r .here .xors .alone (f .0) (across b (f .0) p) (xor-at-copied (f .1) x) (subst⁻¹ (λ (k : ℕ). k < 65536) (key-copied (f .1) (x .place) old) h))
-
-  -- Rule 6
 
   tied-or-unchanged : {b p : ℕ} → XorAt row marks b p → Unchanged row older old b ⊎ ChangedIn (TiedAt row marks) row older old b
   tied-or-unchanged {b} x =
       ⊎-map (λ h. h) (λ s. record { place = s .place; at = record { at = s .at; by = inr (x .marked) }; moved = s .moved })
       (unchanged-or-changed row older old b (x .place .start))
+
+  alone : (b p : ℕ) → XorAt row marks b p → keyAt old row b p < 65536 → JoinedBy new t (sumAt old row b p) (2 * keyAt old row b p)
+  alone b p x h = go (tied-or-unchanged x)
+    where
+      go : Unchanged row older old b ⊎ ChangedIn (TiedAt row marks) row older old b → JoinedBy new t (sumAt old row b p) (2 * keyAt old row b p)
+      go (inl c) =
+          joined-same (r .making) (sum-before c p) (ap (λ (k : ℕ). 2 * k) (key-before c p))
+          (joined-before (r .making) _ _ (r .before .xors .alone b p x (subst⁻¹ (λ (k : ℕ). k < 65536) (key-before c p) h)))
+      go (inr s) =
+          let f = tie-copied r s in
+          joined-same (r .making) (sum-copied (f .1) (x .place) old) (ap (λ (k : ℕ). 2 * k) (key-copied (f .1) (x .place) old))
+          (r .here .xors .alone (f .0) (across b (f .0) p) (xor-at-copied (f .1) x) (subst⁻¹ (λ (k : ℕ). k < 65536) (key-copied (f .1) (x .place) old) h))
+
+  -- Rule 6
 
   digits : (b p : ℕ) → Starts row b → Digits (oddNets (leadOf old) (restAt row b p))
   digits b p s = odd-digits (leadOf old) (restAt row b p) (λ x m. omega (arith, r .leads .low x, net-in r s x (rest-in row b p x m), r .nets))

@@ -1,7 +1,7 @@
 -- The index of a row: the clause of each place, and what its gates tie.
 -- Assumes nothing.
 use mathlib.Core.Path.{_≡_, sym, _∙_, ap, subst, subst⁻¹}
-use mathlib.Core.Logic.{_≢_, _⊎_, inl, inr, ⊎-elim}
+use mathlib.Core.Logic.{_≢_, _⊎_, inl, inr, ⊎-elim, ⊎-map}
 use mathlib.Core.Bool.{true}
 use mathlib.Core.List.{List}
 use Prim.Native.Nat.{ℕ, _+_, _*_, _/_, _%_, _≤_, _<_}
@@ -11,12 +11,13 @@ use lib.ListN.{length, getD, set}
 use lib.Seq.{getD-set-same, getD-set-other}
 use borrow.Author.Tests.{eqb-true}
 use Rattle.clauses.specs.Limit.{maxEntries}
-use Rattle.gates.specs.Found.{clauseAt, Starts, LiteralAt, isAnd, isSelectNext, isSelectAfter, isXor}
+use Rattle.gates.specs.Found.{clauseAt, Starts, LiteralAt, around, isAnd, isSelectNext, isSelectAfter, isXor}
 use Rattle.gates.specs.Mark.{startOf}
 use Rattle.gates.proofs.Rows.{starts-next, starts-apart}
 use Rattle.gates.proofs.StartOf.{literal-start}
-use Rattle.passes.specs.Parts.{TiedAt, SelectAt}
-use Rattle.passes.specs.Indexing.{startAt, tieAt, FirstTwo, Ties, ListedAt, ListedBelow, Listed}
+use Rattle.gates.proofs.Threes.{around-last, around-next}
+use Rattle.passes.specs.Parts.{TiedAt, SelectAt, ThenAt}
+use Rattle.passes.specs.Indexing.{startAt, tieAt, FirstTwo, Ties, Thens, ListedAt, ListedBelow, Listed}
 
 -- Making the index
 
@@ -67,28 +68,69 @@ module _ (marks : List ℕ) (b e first second q : ℕ) (firsts : FirstTwo marks 
       go (yes z) m k = absurd (m z)
       go (no z) m k = omega arith
 
+-- the literal t of a side comes two places after the select, or one
+module _ (b p : ℕ) (low : b ≤ p) (high : p < b + 3) where
+  thrice : around b (around b (around b p)) ≡ p
+  thrice = go (ℕ-discrete p (b + 2)) (ℕ-discrete p (b + 1))
+    where
+      go : Dec (p ≡ b + 2) → Dec (p ≡ b + 1) → around b (around b (around b p)) ≡ p
+      go (yes e) d = rw (around-last b p e, around-next b b (λ z. omega arith), around-next b (b + 1) (λ z. omega arith)) (omega arith)
+      go (no n) (yes e) = rw (around-next b p n, around-last b (p + 1) (omega arith), around-next b b (λ z. omega arith)) (omega arith)
+      go (no n) (no m) =
+          let f : p ≡ b = omega arith in
+          rw (around-next b p n, around-next b (p + 1) (λ z. omega arith), around-last b (p + 1 + 1) (omega arith)) (omega arith)
+
+next-odd : (m : ℕ) → isSelectNext m ≡ true → m / 2 % 2 ≡ 1
+unfolding isSelectNext
+next-odd m h = eqb-true (m / 2 % 2) 1 h
+
+after-odd : (m : ℕ) → isSelectAfter m ≡ true → m / 4 % 2 ≡ 1
+unfolding isSelectAfter
+after-odd m h = eqb-true (m / 4 % 2) 1 h
+
+pub then-by : (marks : List ℕ) (b e q : ℕ) → Thens marks b e q
+    → (getD marks (around b q) 0 / 2 % 2 ≡ 1) ⊎ (getD marks (around b (around b q)) 0 / 4 % 2 ≡ 1)
+then-by marks b e q (p, l, h, three, by) =
+    ⊎-map
+    (λ k. next-odd _ (subst⁻¹ (λ (i : ℕ). isSelectNext (getD marks i 0) ≡ true) (ap (around b) (k .1) ∙ thrice b p l (omega (arith, three))) (k .0)))
+    (λ k. after-odd _ (subst⁻¹ (λ (i : ℕ). isSelectAfter (getD marks i 0) ≡ true) (ap (λ (i : ℕ). around b (around b i)) (k .1) ∙ thrice b p l (omega (arith, three))) (k .0)))
+    by
+
+-- bits are added
+pub bits-low : (x y z : ℕ) → (x ≡ 0) ⊎ (x ≡ 1) → (y ≡ 0) ⊎ (y ≡ 2) → (z ≡ 0) ⊎ (z ≡ 4) → x + y + z < 8
+bits-low x y z f g h = ⊎-elim (λ a. ⊎-elim (λ b. ⊎-elim (λ c. omega arith) (λ c. omega arith) h) (λ b. ⊎-elim (λ c. omega arith) (λ c. omega arith) h) g) (λ a. ⊎-elim (λ b. ⊎-elim (λ c. omega arith) (λ c. omega arith) h) (λ b. ⊎-elim (λ c. omega arith) (λ c. omega arith) h) g) f
+
+pub bits-odd : (y z : ℕ) → (y ≡ 0) ⊎ (y ≡ 2) → (z ≡ 0) ⊎ (z ≡ 4) → (1 + y + z) % 2 ≡ 1
+bits-odd y z g h = ⊎-elim (λ b. ⊎-elim (λ c. omega arith) (λ c. omega arith) h) (λ b. ⊎-elim (λ c. omega arith) (λ c. omega arith) h) g
+
+pub bits-middle : (x z : ℕ) → (x ≡ 0) ⊎ (x ≡ 1) → (z ≡ 0) ⊎ (z ≡ 4) → (x + 2 + z) / 2 % 2 ≡ 1
+bits-middle x z f h = ⊎-elim (λ a. ⊎-elim (λ c. omega arith) (λ c. omega arith) h) (λ a. ⊎-elim (λ c. omega arith) (λ c. omega arith) h) f
+
 -- the places of a clause are listed one by one
 listed-same : (marks starts starts′ : List ℕ) (b e q : ℕ) → getD starts′ q 0 ≡ getD starts q 0 → ListedAt marks b e starts q → ListedAt marks b e starts′ q
 listed-same marks starts starts′ b e q s t =
     record {
-      start = ap (λ (x : ℕ). x / 4) s ∙ t .start;
+      start = ap (λ (x : ℕ). x / 8) s ∙ t .start;
       tied = λ k. ap (λ (x : ℕ). x % 2) s ∙ t .tied k;
-      select = λ k. subst⁻¹ (λ (x : ℕ). 2 ≤ x % 4) s (t .select k);
+      select = λ k. ap (λ (x : ℕ). x % 8 / 2 % 2) s ∙ t .select k;
+      then = λ k. subst⁻¹ (λ (x : ℕ). 4 ≤ x % 8) s (t .then k);
     }
 
-pub listed-on : (marks starts : List ℕ) (b e q r : ℕ) → q < length starts → r < 4 → (Ties marks b e q → r % 2 ≡ 1) → (2 ≤ getD marks q 0 → 2 ≤ r)
-    → ((k : ℕ) → b ≤ k → k < q → ListedAt marks b e starts k) → (k : ℕ) → b ≤ k → k < q + 1 → ListedAt marks b e (set starts q (4 * b + r)) k
-listed-on marks starts b e q r room low odd high below =
-    places-more (ListedAt marks b e after) b q (λ k l h. listed-same marks starts after b e k (getD-set-other starts q k (4 * b + r) 0 (λ z. omega arith)) (below k l h)) here
+pub listed-on : (marks starts : List ℕ) (b e q r : ℕ) → q < length starts → r < 8 → (Ties marks b e q → r % 2 ≡ 1) → (2 ≤ getD marks q 0 → r / 2 % 2 ≡ 1)
+    → (Thens marks b e q → 4 ≤ r)
+    → ((k : ℕ) → b ≤ k → k < q → ListedAt marks b e starts k) → (k : ℕ) → b ≤ k → k < q + 1 → ListedAt marks b e (set starts q (8 * b + r)) k
+listed-on marks starts b e q r room low odd select then below =
+    places-more (ListedAt marks b e after) b q (λ k l h. listed-same marks starts after b e k (getD-set-other starts q k (8 * b + r) 0 (λ z. omega arith)) (below k l h)) here
   where
     after : List ℕ
-    after = set starts q (4 * b + r)
+    after = set starts q (8 * b + r)
 
-    is : getD after q 0 ≡ 4 * b + r
-    is = getD-set-same starts q (4 * b + r) 0 room
+    is : getD after q 0 ≡ 8 * b + r
+    is = getD-set-same starts q (8 * b + r) 0 room
 
     here : ListedAt marks b e after q
-    here = record { start = omega (arith, is); tied = λ t. omega (arith, is, odd t); select = λ t. omega (arith, is, high t) }
+    here =
+        record { start = omega (arith, is); tied = λ t. omega (arith, is, odd t); select = λ t. omega (arith, is, select t); then = λ t. omega (arith, is, then t) }
 
 -- the clause behind the one at b, which ends at e
 pub starts-behind : (codes : List ℕ) (b e : ℕ) → e ≡ b + length (clauseAt codes b) → e + 1 < length codes → Starts codes (e + 1)
@@ -150,5 +192,8 @@ module _ (codes marks starts : List ℕ) (listed : Listed codes marks starts) wh
     pub listed-tie : TiedAt codes marks b q → getD starts q 0 % 2 ≡ 1
     listed-tie k = at .tied (⊎-elim (λ i. inr (i .output, i .output-at .low, i .output-at .high, i .mark, i .apart)) inl (k .by))
 
-    pub listed-select : SelectAt codes marks b q → 2 ≤ tieAt starts q
+    pub listed-then : ThenAt codes marks b q → 4 ≤ tieAt starts q
+    listed-then k = at .then (k .select, k .select-at .low, k .select-at .high, ap (λ (n : ℕ). b + n) (k .three), k .by)
+
+    pub listed-select : SelectAt codes marks b q → tieAt starts q / 2 % 2 ≡ 1
     listed-select k = at .select (side-mark (getD marks q 0) (k .marked))

@@ -140,7 +140,7 @@ alike-copied c k e l a =
 -- Rules 7 and 8
 
 -- the marks of the side at a place
-abbrev Turned : List ℕ → List ℕ → ℕ → ℕ → ℕ → ℕ → Type 0
+abbrev pub Turned : List ℕ → List ℕ → ℕ → ℕ → ℕ → ℕ → Type 0
 Turned row marks b p l u =
     ((isSelectNext (getD marks p 0) ≡ true) × (getD row (around b p) 0 ≡ negate l) × (getD row (around b (around b p)) 0 ≡ u))
     ⊎ ((isSelectAfter (getD marks p 0) ≡ true) × (getD row (around b (around b p)) 0 ≡ negate l) × (getD row (around b p) 0 ≡ u))

@@ -16,10 +16,10 @@ use Rattle.passes.specs.Passing.{ClauseJoined}
 use Rattle.passes.specs.Xors.{LeadRow}
 use Rattle.passes.specs.Marked.{Marked}
 use Rattle.passes.specs.RowJoined.{RowJoined}
-use Rattle.passes.specs.Parts.{Ended, Copy, ChangedIn, Changed, Shares, SharesTwo, TiedAt, Active, changed, tied, HoldsActive}
+use Rattle.passes.specs.Parts.{Ended, Copy, ConstantAt, ChangedIn, Shares, SharesTwo, TiedAt, Active, constant, tie, tied, HoldsActive}
 use Rattle.passes.specs.declared.tally.Tally.{Tally}
 use Rattle.passes.proofs.PartPlaces.{clause-copied}
-use Rattle.passes.proofs.UnchangedClauses.{Unchanged, unchanged-or-changed, clause-unchanged}
+use Rattle.passes.proofs.UnchangedClauses.{Variable, variable-or-constant, clause-unchanged}
 
 -- the round from the old leads has gone over the part, and the one before has joined what all of the row draws
 pub record PartRound (cs : List (List ℕ)) (row marks part partMarks older old new : List ℕ) (t : Tally) : Type 0 where
@@ -64,8 +64,8 @@ module _ {cs : List (List ℕ)} {row marks part partMarks older old new : List �
       go (inl c) = c
       go (inr n) = absurd (n a)
 
-  pub changed-copied : {b : ℕ} → Changed row older old b → (b′ : ℕ) × Copy row marks b part partMarks b′
-  changed-copied {b} s = active-copied b (s .at .start) (changed s)
+  pub tie-copied : {b : ℕ} → ChangedIn (TiedAt row marks) row older old b → (b′ : ℕ) × Copy row marks b part partMarks b′
+  tie-copied {b} s = active-copied b (s .at .at .start) (tie s)
 
   -- two clauses, of each of which what counts is unchanged or the lead of a tied place has changed
   pub pair-of : {Left Right : Type 0} (b d : ℕ) → Starts row b → Starts row d → Left ⊎ ChangedIn (TiedAt row marks) row older old b
@@ -75,23 +75,20 @@ module _ {cs : List (List ℕ)} {row marks part partMarks older old new : List �
       both : (b′ : ℕ) × Copy row marks b part partMarks b′ → (d′ : ℕ) × Copy row marks d part partMarks d′ → Pair row marks part partMarks old Left Right b d
       both (b′, c) (d′, e) = copied (record { b′ = b′; d′ = d′; left = c; right = e })
 
-      tied-copied : {a : ℕ} → ChangedIn (TiedAt row marks) row older old a → (a′ : ℕ) × Copy row marks a part partMarks a′
-      tied-copied c = changed-copied (record { place = c .place; at = c .at .at; moved = c .moved })
-
       go : Left ⊎ ChangedIn (TiedAt row marks) row older old b → Right ⊎ ChangedIn (TiedAt row marks) row older old d
           → ((b′ : ℕ) × Copy row marks b part partMarks b′) ⊎ (¬ Active row marks older old b)
           → ((d′ : ℕ) × Copy row marks d part partMarks d′) ⊎ (¬ Active row marks older old d)
           → Pair row marks part partMarks old Left Right b d
       go (inl c) (inl e) h i = unchanged c e
-      go (inr c) e h (inl k) = both (tied-copied c) k
+      go (inr c) e h (inl k) = both (tie-copied c) k
       go (inr c) e h (inr n) = apart (λ k. n (tied b c (two-back k)))
-      go (inl c) (inr e) (inl k) i = both k (tied-copied e)
+      go (inl c) (inr e) (inl k) i = both k (tie-copied e)
       go (inl c) (inr e) (inr n) i = apart (λ k. n (tied d e k))
 
   -- Rules 1 and 2
   pub clauses-joined : (b : ℕ) → Starts row b → ClauseJoined row marks old new t b
-  clauses-joined b s = go (unchanged-or-changed row older old b s)
+  clauses-joined b s = go (variable-or-constant row older old b s)
     where
-      go : Unchanged row older old b ⊎ Changed row older old b → ClauseJoined row marks old new t b
-      go (inr h) = let c = changed-copied h in clause-copied (c .1) (r .marked) (r .here .clauses (c .0) (c .1 .start′))
+      go : Variable row older old b ⊎ ChangedIn (ConstantAt row old) row older old b → ClauseJoined row marks old new t b
+      go (inr h) = let c = active-copied b s (constant h) in clause-copied (c .1) (r .marked) (r .here .clauses (c .0) (c .1 .start′))
       go (inl h) = clause-unchanged h (r .making) marks (r .before .clauses b s)

@@ -1,16 +1,16 @@
 -- Rows of marks by net and by place, and what they say of the clauses.
 -- Assumes nothing.
 use mathlib.Core.Path.{_≡_, refl, sym, _∙_, ap, subst, subst⁻¹}
-use mathlib.Core.Logic.{_≢_, _⊎_, inl, inr}
-use mathlib.Core.Bool.{Bool, true, false, not, true≢false}
+use mathlib.Core.Logic.{_≢_, _⊎_, inl, inr, ⊎-elim}
+use mathlib.Core.Bool.{Bool, true, false, not, true≢false, _&&_}
 use mathlib.Core.List.{List}
-use Prim.Native.Nat.{ℕ, _+_, _-_, _*_, _%_, _≤_, _<_}
+use Prim.Native.Nat.{ℕ, _+_, _-_, _*_, _/_, _%_, _≤_, _<_}
 use native.Mathlib.Omega.{arith}
 use native.Mathlib.Decide.{decLt, ℕ-discrete}
-use lib.Dec.{eqb}
+use lib.Dec.{eqb, ltb}
 use lib.ListN.{length, getD, set, length-set, List·getD-eq-default}
 use lib.Seq.{getD-set-same, getD-set-other}
-use borrow.Author.Tests.{eq-eqb, ne-eqb}
+use borrow.Author.Tests.{eq-eqb, ne-eqb, lt-ltb, le-ltb}
 use Rattle.clauses.specs.Code.{net}
 use Rattle.clauses.proofs.Lists.{and-both, not-eqb}
 use Rattle.gates.specs.Sign.{flip, isInverse}
@@ -20,12 +20,12 @@ use Rattle.gates.proofs.Signs.{net-flip}
 use Rattle.rules.specs.Answer.{leadOf}
 use Rattle.passes.specs.Passing.{leadAt, First}
 use Rattle.passes.specs.Xors.{LeadRow}
-use Rattle.passes.specs.Parts.{Moved, ChangedIn, Changed, Shares, TiedAt, SelectAt, Active, changed, select, tied}
+use Rattle.passes.specs.Parts.{Moved, ChangedIn, Shares, TiedAt, SelectAt, ReadAt, Active, constant, tie, side, tied, select}
 use Rattle.passes.specs.Indexing.{netAt, startAt, tieAt, Listed}
-use Rattle.passes.specs.Taking.{HasMark, Keeps, hasMoved, isTouched, asSelect, TouchedBy, Touched, isTied, SeesPlace, SeesMoved, OtherTouched, Due, by-select, by-tie, SeesTouched, Sees}
+use Rattle.passes.specs.Taking.{HasMark, Keeps, hasMoved, isTouched, asSelect, TouchedBy, Touched, isTied, isRead, SeesPlace, SeesMoved, OtherTouched, Due, by-select, by-tie, SeesTouched, Sees}
 use Rattle.passes.proofs.Joining.{lead-constant, lead-inside}
 use Rattle.passes.proofs.MarkCounts.{count-more}
-use Rattle.passes.proofs.Indexing.{listed-start, listed-tie, listed-select}
+use Rattle.passes.proofs.Indexing.{listed-start, listed-tie, listed-then, listed-select}
 
 -- A row of marks that is written
 
@@ -45,18 +45,35 @@ module _ (marked : List ℕ) (w v : ℕ) where
       go (no d) l = mark-other x d h
 
 -- what is touched stays so
-pub touched-keeps : {counts : Bool} {tie n : ℕ} {touched touched′ : List ℕ} → Keeps touched touched′ → TouchedBy counts tie touched n → TouchedBy counts tie touched′ n
-touched-keeps keeps t = record { tied = λ c h. keeps _ (t .tied c h); select = λ h. (keeps _ (t .select h .0), keeps _ (t .select h .1)) }
+pub touched-keeps : {ties sides : Bool} {tie n : ℕ} {touched touched′ : List ℕ} → Keeps touched touched′ → TouchedBy ties sides tie touched n → TouchedBy ties sides tie touched′ n
+touched-keeps keeps t = record { tied = λ c h. keeps _ (t .tied c h); select = λ c h. (keeps _ (t .select c h .0), keeps _ (t .select c h .1)) }
 
 pub place-keeps : {codes starts old seen seen′ touched touched′ : List ℕ} {q : ℕ} → Keeps seen seen′ → Keeps touched touched′ → SeesPlace codes starts old seen touched q
     → SeesPlace codes starts old seen′ touched′ q
-place-keeps sees keeps s = record { seen-it = sees _ (s .seen-it); touches = λ k l h. touched-keeps keeps (s .touches k l h) }
+place-keeps sees keeps s = record { told = λ h. sees _ (s .told h); touches = λ k l h. touched-keeps keeps (s .touches k l h) }
+
+-- what counts, and is odd
+pub counted : (on : Bool) (x : ℕ) → on ≡ true → x % 2 ≡ 1 → (on && eqb (x % 2) 1) ≡ true
+counted on x k h = rw (k, eq-eqb (x % 2) 1 h)
 
 -- the clause of a place whose lead has changed is seen, and its leads are touched
 pub place-seen : (codes starts old seen touched : List ℕ) (q e : ℕ) → e ≡ startAt starts q + length (clauseAt codes (startAt starts q)) → HasMark seen (startAt starts q)
-    → Touched codes starts old (eqb (getD starts q 0 % 2) 1) touched (startAt starts q) e → SeesPlace codes starts old seen touched q
-unfolding isTied
-place-seen codes starts old seen touched q e end sees t = record { seen-it = sees; touches = λ k l h. t k l (omega (arith, end)) }
+    → Touched codes starts old (eqb (getD starts q 0 % 2) 1) (ltb 1 (getD starts q 0 % 8)) touched (startAt starts q) e → SeesPlace codes starts old seen touched q
+unfolding isTied isRead
+place-seen codes starts old seen touched q e end sees t = record { told = λ h. sees; touches = λ k l h. t k l (omega (arith, end)) }
+
+-- .. unless that tells nothing
+pub place-idle : (codes starts old seen touched : List ℕ) (q : ℕ) → tieAt starts q ≡ 0 → net (leadAt codes old q) ≢ 0 → SeesPlace codes starts old seen touched q
+unfolding isTied isRead
+place-idle codes starts old seen touched q z n =
+    record {
+      told = ⊎-elim (λ m. absurd (m z)) (λ m. absurd (n m));
+      touches = λ k l h.
+          record {
+            tied = λ c d. absurd (true≢false (sym c ∙ ne-eqb (getD starts q 0 % 2) 1 (λ o. omega arith)));
+            select = λ c d. absurd (true≢false (sym c ∙ le-ltb 1 (tieAt starts q) (omega arith)));
+          };
+    }
 
 -- net n is touched, and as a select
 module _ (touched : List ℕ) (n : ℕ) (room : asSelect n < length touched) where
@@ -145,11 +162,11 @@ not-moved older old w e = ap not (eq-eqb (getD older w 0) (getD old w 0) e)
 
 -- what is due has a tie
 module _ {codes starts old touched : List ℕ} {q : ℕ} where
-  pub due-tied : Due codes starts old touched q → tieAt starts q ≢ 0
+  pub due-tied : Due codes starts old touched q → getD starts q 0 % 4 ≢ 0
   due-tied (by-select h m) z = omega arith
   due-tied (by-tie h o) z = omega arith
 
-  pub due-elim : {R : Type 0} → (2 ≤ tieAt starts q → HasMark touched (asSelect (net (leadAt codes old q))) → R)
+  pub due-elim : {R : Type 0} → (tieAt starts q / 2 % 2 ≡ 1 → HasMark touched (asSelect (net (leadAt codes old q))) → R)
       → (getD starts q 0 % 2 ≡ 1 → OtherTouched codes old touched (startAt starts q) q → R) → Due codes starts old touched q → R
   due-elim f g (by-select h m) = f h m
   due-elim f g (by-tie h o) = g h o
@@ -168,6 +185,10 @@ other-found codes old touched b e q r end f o = go (decLt r e)
 tied-is : (starts : List ℕ) (q : ℕ) → getD starts q 0 % 2 ≡ 1 → isTied starts q ≡ true
 unfolding isTied
 tied-is starts q h = eq-eqb (getD starts q 0 % 2) 1 h
+
+read-is : (starts : List ℕ) (q : ℕ) → 2 ≤ tieAt starts q → isRead starts q ≡ true
+unfolding isRead
+read-is starts q h = lt-ltb 1 (tieAt starts q) (omega arith)
 
 -- the net of a lead
 net-lead : (old : List ℕ) (c : ℕ) → net c ≢ 0 → net c ≤ length old → net (leadOf old c) ≡ net (getD old (net c - 1) 0)
@@ -207,12 +228,17 @@ module _ (codes marks starts older old : List ℕ) (listed : Listed codes marks 
         let moved : getD older (net c - 1) 0 ≢ getD old (net c - 1) 0 = λ e. m (sym (lead-inside older c n (omega (arith, nets q))) ∙ ap (flip (isInverse c)) e ∙ lead-inside old c n (nets q)) in
         sees (net c - 1) (place-inside q n) (has-moved older old (net c - 1) moved) q (literal-inside codes d q l) (sym (place-of q n))
 
-    changed-seen : (d : ℕ) → Changed codes older old d → HasMark seen d
-    changed-seen d s = subst (HasMark seen) (listed-start codes marks starts listed d (s .place) (s .at)) (moved-seen d (s .place) (s .at) (s .moved) .seen-it)
+    told-seen : (d q : ℕ) → LiteralAt codes d q → Moved older old (getD codes q 0) → (tieAt starts q ≢ 0) ⊎ (net (leadAt codes old q) ≡ 0) → HasMark seen d
+    told-seen d q l m h = subst (HasMark seen) (listed-start codes marks starts listed d q l) (moved-seen d q l m .told h)
+
+    -- rules 7 and 8 read the lead
+    read-at : (d q : ℕ) → ReadAt codes marks d q → LiteralAt codes d q × (2 ≤ tieAt starts q)
+    read-at d q (inl k) = let h = listed-select codes marks starts listed d q (k .at) k in (k .at, omega arith)
+    read-at d q (inr k) = let h = listed-then codes marks starts listed d q (k .at) k in (k .at, omega arith)
 
     -- what it has touched at another place of the clause
     touched-at : (d q p : ℕ) → LiteralAt codes d q → Moved older old (getD codes q 0) → LiteralAt codes d p
-        → TouchedBy (isTied starts q) (tieAt starts p) touched (net (leadAt codes old p))
+        → TouchedBy (isTied starts q) (isRead starts q) (tieAt starts p) touched (net (leadAt codes old p))
     touched-at d q p l m k =
         let e = listed-start codes marks starts listed d q l in
         moved-seen d q l m .touches p (omega (arith, k .low)) (subst⁻¹ (λ (i : ℕ). p < i + length (clauseAt codes i)) e (k .high))
@@ -222,9 +248,11 @@ module _ (codes marks starts older old : List ℕ) (listed : Listed codes marks 
         touched-at d (s .place) p (s .at .at) (s .moved) (k .at) .tied (tied-is starts (s .place) (listed-tie codes marks starts listed d (s .place) (s .at .at) (s .at)))
         (let h = listed-tie codes marks starts listed d p (k .at) k in omega arith)
 
-    selects-touched : (d p : ℕ) → Changed codes older old d → SelectAt codes marks d p
+    selects-touched : (d p : ℕ) → ChangedIn (ReadAt codes marks) codes older old d → SelectAt codes marks d p
         → HasMark touched (net (leadAt codes old p)) × HasMark touched (asSelect (net (leadAt codes old p)))
-    selects-touched d p s k = touched-at d (s .place) p (s .at) (s .moved) (k .at) .select (listed-select codes marks starts listed d p (k .at) k)
+    selects-touched d p s k =
+        let h = read-at d (s .place) (s .at) in
+        touched-at d (s .place) p (h .0) (s .moved) (k .at) .select (read-is starts (s .place) (h .1)) (listed-select codes marks starts listed d p (k .at) k)
 
     -- a place that is due and has a touched lead is seen
     module _ (last : List ℕ) (keeps : Keeps seen last) (all : SeesTouched codes starts old touched (length old) last) where
@@ -237,7 +265,12 @@ module _ (codes marks starts older old : List ℕ) (listed : Listed codes marks 
           (all (net c - 1) (place-inside q n) (subst (λ (x : ℕ). isTouched touched 0 x ≡ true) lead (is-touched touched 0 _ v v m)) q (literal-inside codes b q l) (sym (place-of q n)) due)
 
       pub active-seen : (b : ℕ) → Active codes marks older old b → HasMark last b
-      active-seen b (changed s) = keeps b (changed-seen b s)
+      active-seen b (constant s) = keeps b (told-seen b (s .place) (s .at .at) (s .moved) (inr (s .at .constant)))
+      active-seen b (tie s) = keeps b (told-seen b (s .place) (s .at .at) (s .moved) (inl (λ z. tied-some s z)))
+        where
+          tied-some : (s : ChangedIn (TiedAt codes marks) codes older old b) → tieAt starts (s .place) ≢ 0
+          tied-some s z = let h = listed-tie codes marks starts listed b (s .place) (s .at .at) (s .at) in omega arith
+      active-seen b (side s) = let h = read-at b (s .place) (s .at) in keeps b (told-seen b (s .place) (h .0) (s .moved) (inl (λ z. omega (arith, h .1))))
       active-seen b (select d s k) =
           let h = selects-touched d (k .other) s (k .other-at) in
           due-seen b (k .place) (k .at .at) (k .variable) (subst⁻¹ (HasMark touched) (k .same) (h .0))

@@ -10,20 +10,20 @@ use lib.ListN.{length, getD}
 use Rattle.clauses.specs.Limit.{maxNets, maxEntries}
 use Rattle.clauses.specs.Code.{net}
 use Rattle.gates.specs.Chains.{Chained}
-use Rattle.gates.specs.Found.{clauseAt, Starts, LiteralAt, isAnd, isXor}
+use Rattle.gates.specs.Found.{clauseAt, Starts, LiteralAt, around, isAnd, isSelectNext, isSelectAfter, isXor}
 
 -- the net at place q
 abbrev pub netAt : List ℕ → ℕ → ℕ
 netAt codes q = net (getD codes q 0)
 
--- The row `starts` has for each literal's place four times the start of its clause and what its gates tie: 1 if one ties the place, and 2 if it is
--- the place of a select; and behind the first 16,384 entries for each clause's start the place of its ending
+-- The row `starts` has for each literal's place eight times the start of its clause and what the place is to its gates: 1 if one ties it, 2 if it is
+-- that of a select, 4 if it is that of a literal t; and behind the first 16,384 entries for each clause's start the place of its ending
 
 abbrev pub startAt : List ℕ → ℕ → ℕ
-startAt starts q = getD starts q 0 / 4
+startAt starts q = getD starts q 0 / 8
 
 abbrev pub tieAt : List ℕ → ℕ → ℕ
-tieAt starts q = getD starts q 0 % 4
+tieAt starts q = getD starts q 0 % 8
 
 -- the first two outputs of ANDs in a clause from b up to its ending at e are at these places, or there are fewer
 pub record FirstTwo (marks : List ℕ) (b e first second : ℕ) : Type 0 where
@@ -34,11 +34,18 @@ pub record FirstTwo (marks : List ℕ) (b e first second : ℕ) : Type 0 where
 abbrev pub Ties : List ℕ → ℕ → ℕ → ℕ → Type 0
 Ties marks b e q = (isXor (getD marks e 0) ≡ true) ⊎ ((p : ℕ) × (b ≤ p) × (p < e) × (isAnd (getD marks p 0) ≡ true) × (p ≢ q))
 
--- its place q is listed
+-- its place q holds the literal t of a side
+abbrev pub Thens : List ℕ → ℕ → ℕ → ℕ → Type 0
+Thens marks b e q =
+    (p : ℕ) × (b ≤ p) × (p < e) × (e ≡ b + 3)
+    × (((isSelectNext (getD marks p 0) ≡ true) × (q ≡ around b (around b p))) ⊎ ((isSelectAfter (getD marks p 0) ≡ true) × (q ≡ around b p)))
+
+-- .. is listed
 pub record ListedAt (marks : List ℕ) (b e : ℕ) (starts : List ℕ) (q : ℕ) : Type 0 where
   pub start : startAt starts q ≡ b
   pub tied : Ties marks b e q → getD starts q 0 % 2 ≡ 1
-  pub select : 2 ≤ getD marks q 0 → 2 ≤ tieAt starts q
+  pub select : 2 ≤ getD marks q 0 → tieAt starts q / 2 % 2 ≡ 1
+  pub then : Thens marks b e q → 4 ≤ tieAt starts q
 
 -- the clauses below m are listed
 pub record ListedBelow (codes marks starts : List ℕ) (m : ℕ) : Type 0 where

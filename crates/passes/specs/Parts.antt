@@ -8,7 +8,7 @@ use mathlib.Core.List.{List}
 use Prim.Native.Nat.{ℕ, _+_, _≤_, _<_}
 use lib.ListN.{length, getD}
 use Rattle.clauses.specs.Code.{net}
-use Rattle.gates.specs.Found.{clauseAt, Starts, LiteralAt, isAnd, isSelectNext, isSelectAfter, isXor}
+use Rattle.gates.specs.Found.{clauseAt, Starts, LiteralAt, around, isAnd, isSelectNext, isSelectAfter, isXor}
 use Rattle.rules.specs.Answer.{leadOf}
 use Rattle.passes.specs.Passing.{leadAt}
 
@@ -39,9 +39,10 @@ pub record ChangedIn (In : ℕ → ℕ → Type 0) (row older old : List ℕ) (b
   pub at : In b place
   pub moved : Moved older old (getD row place 0)
 
--- a lead of the clause at b has changed
-abbrev pub Changed : List ℕ → List ℕ → List ℕ → ℕ → Type 0
-Changed row older old b = ChangedIn (LiteralAt row) row older old b
+-- the lead at place q of the clause at b is a constant
+pub record ConstantAt (row old : List ℕ) (b q : ℕ) : Type 0 where
+  pub at : LiteralAt row b q
+  pub constant : net (leadAt row old q) ≡ 0
 
 -- the clauses at b and d have leads of one net at such places
 pub record Shares (In : ℕ → ℕ → Type 0) (row old : List ℕ) (b d : ℕ) : Type 0 where
@@ -75,12 +76,28 @@ pub record SelectAt (row marks : List ℕ) (b p : ℕ) : Type 0 where
   pub at : LiteralAt row b p
   pub marked : (isSelectNext (getD marks p 0) ≡ true) ⊎ (isSelectAfter (getD marks p 0) ≡ true)
 
--- a round other than the first has to go over the clause at b: two ANDs or XORs that a rule takes together share the leads of two nets at tied
--- places, or the rules about one gate alone join them; two ITEs share that of the select
+-- place q holds the literal t of a side whose select is in the clause at b
+pub record ThenAt (row marks : List ℕ) (b q : ℕ) : Type 0 where
+  pub at : LiteralAt row b q
+  pub three : length (clauseAt row b) ≡ 3
+  pub select : ℕ
+  pub select-at : LiteralAt row b select
+  pub by : ((isSelectNext (getD marks select 0) ≡ true) × (q ≡ around b (around b select)))
+      ⊎ ((isSelectAfter (getD marks select 0) ≡ true) × (q ≡ around b select))
+
+-- rules 7 and 8 read the lead at place q of the clause at b
+abbrev pub ReadAt : List ℕ → List ℕ → ℕ → ℕ → Type 0
+ReadAt row marks b q = SelectAt row marks b q ⊎ ThenAt row marks b q
+
+-- a round other than the first has to go over the clause at b: a lead of it has become a constant, or one that a rule about its gates reads has
+-- changed, or the gates of a clause of which one has changed may be taken together with its own. Two ANDs or XORs that a rule takes together share
+-- the leads of two nets at tied places, or the rules about one gate alone join them; two ITEs share that of the select.
 pub data Active (row marks older old : List ℕ) (b : ℕ) : Type 0 where
-  changed : Changed row older old b → Active row marks older old b
-  select : (d : ℕ) → Changed row older old d → Shares (SelectAt row marks) row old b d → Active row marks older old b
+  constant : ChangedIn (ConstantAt row old) row older old b → Active row marks older old b
+  tie : ChangedIn (TiedAt row marks) row older old b → Active row marks older old b
+  side : ChangedIn (ReadAt row marks) row older old b → Active row marks older old b
   tied : (d : ℕ) → ChangedIn (TiedAt row marks) row older old d → SharesTwo (TiedAt row marks) row old b d → Active row marks older old b
+  select : (d : ℕ) → ChangedIn (ReadAt row marks) row older old d → Shares (SelectAt row marks) row old b d → Active row marks older old b
 
 -- every active clause is in the part
 abbrev pub HoldsActive : List ℕ → List ℕ → List ℕ → List ℕ → List ℕ → List ℕ → Type 0

@@ -5,8 +5,8 @@ use mathlib.Core.Path.{_≡_}
 use mathlib.Core.Logic.{_≢_, _⊎_}
 use mathlib.Core.Bool.{Bool, true, not, cond, _&&_}
 use mathlib.Core.List.{List, [], _∷_}
-use Prim.Native.Nat.{ℕ, _+_, _-_, _%_, _≤_, _<_}
-use lib.Dec.{eqb}
+use Prim.Native.Nat.{ℕ, _+_, _-_, _/_, _%_, _≤_, _<_}
+use lib.Dec.{eqb, ltb}
 use lib.ListN.{length, getD, take}
 use Rattle.clauses.specs.Limit.{maxNets}
 use Rattle.clauses.specs.Code.{net}
@@ -42,23 +42,26 @@ isTouched touched skip n = not (eqb n 0) && (not (eqb n skip) && not (eqb (getD 
 abbrev pub asSelect : ℕ → ℕ
 asSelect n = maxNets + 1 + n
 
--- net n is touched for a place with these ties: as a select if it is one, and else if the tie counts
-pub record TouchedBy (counts : Bool) (tie : ℕ) (touched : List ℕ) (n : ℕ) : Type 0 where
-  pub tied : counts ≡ true → tie % 2 ≡ 1 → HasMark touched n
-  pub select : 2 ≤ tie → HasMark touched n × HasMark touched (asSelect n)
+-- net n is touched for a place that is this to its gates, where ties count, and selects do
+pub record TouchedBy (ties sides : Bool) (tie : ℕ) (touched : List ℕ) (n : ℕ) : Type 0 where
+  pub tied : ties ≡ true → tie % 2 ≡ 1 → HasMark touched n
+  pub select : sides ≡ true → tie / 2 % 2 ≡ 1 → HasMark touched n × HasMark touched (asSelect n)
 
 -- the leads from place b up to e are touched
-abbrev pub Touched : List ℕ → List ℕ → List ℕ → Bool → List ℕ → ℕ → ℕ → Type 0
-Touched codes starts old counts touched b e = (q : ℕ) → b ≤ q → q < e → TouchedBy counts (tieAt starts q) touched (net (leadAt codes old q))
+abbrev pub Touched : List ℕ → List ℕ → List ℕ → Bool → Bool → List ℕ → ℕ → ℕ → Type 0
+Touched codes starts old ties sides touched b e = (q : ℕ) → b ≤ q → q < e → TouchedBy ties sides (tieAt starts q) touched (net (leadAt codes old q))
 
--- a gate ties place q
+-- a gate ties place q; rules 7 and 8 read its lead
 unfoldable pub isTied : List ℕ → ℕ → Bool
 isTied starts q = eqb (getD starts q 0 % 2) 1
 
--- the clause of place q, whose lead has changed, is seen, and its leads are touched
+unfoldable pub isRead : List ℕ → ℕ → Bool
+isRead starts q = ltb 1 (tieAt starts q)
+
+-- the clause of place q, whose lead has changed, is seen if that tells anything, and its leads are touched
 pub record SeesPlace (codes starts old seen touched : List ℕ) (q : ℕ) : Type 0 where
-  pub seen-it : HasMark seen (startAt starts q)
-  pub touches : Touched codes starts old (isTied starts q) touched (startAt starts q) (startAt starts q + length (clauseAt codes (startAt starts q)))
+  pub told : (tieAt starts q ≢ 0) ⊎ (net (leadAt codes old q) ≡ 0) → HasMark seen (startAt starts q)
+  pub touches : Touched codes starts old (isTied starts q) (isRead starts q) touched (startAt starts q) (startAt starts q + length (clauseAt codes (startAt starts q)))
 
 -- .. of the places of net w
 abbrev pub SeesNet : List ℕ → List ℕ → List ℕ → ℕ → List ℕ → List ℕ → Type 0
@@ -76,7 +79,7 @@ pub record OtherTouched (codes old touched : List ℕ) (b q : ℕ) : Type 0 wher
 
 -- the clause of place q, whose lead is touched, has to be taken: as a select its lead is touched as one, or a gate ties it and another touched lead
 pub data Due (codes starts old touched : List ℕ) (q : ℕ) : Type 0 where
-  by-select : 2 ≤ tieAt starts q → HasMark touched (asSelect (net (leadAt codes old q))) → Due codes starts old touched q
+  by-select : tieAt starts q / 2 % 2 ≡ 1 → HasMark touched (asSelect (net (leadAt codes old q))) → Due codes starts old touched q
   by-tie : getD starts q 0 % 2 ≡ 1 → OtherTouched codes old touched (startAt starts q) q → Due codes starts old touched q
 
 -- the clauses of net w that are due are seen

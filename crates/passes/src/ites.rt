@@ -270,6 +270,9 @@ fn is_joined(sides: &[u32], i: usize, k: usize, old: &[u32], new: &[u32]) -> boo
     requires { ⌜ (i < sideCount (now sides)) × (k < sideCount (now sides)) ⌝ }
     ensures { λ r. ⌜ (r ≡ true → Alike (now (sides .entry)) (now (old .entry)) i k → leadOf (now (new .entry)) (outputAt (now (sides .entry)) k) ≡ leadOf (now (new .entry)) (outputAt (now (sides .entry)) i)) ⌝ }
 {
+    if i == k {
+        return true;
+    }
     if !is_alike(sides, old, i, k) {
         return true;
     }

@@ -2,14 +2,15 @@
 
 ghost use mathlib.Core.Path.{_≡_};
 ghost use mathlib.Core.Bool.{true};
-ghost use Prim.Native.Nat.{ℕ, _+_, _*_, _%_, _≤_, _<_};
+ghost use Prim.Native.Nat.{ℕ, _+_, _*_, _/_, _%_, _≤_, _<_};
 ghost use mathlib.Core.Logic.{_⊎_};
 ghost use lib.ListN.{length, getD, replicate};
 ghost use Rattle.clauses.specs.Limit.{maxNets, maxEntries};
 ghost use Rattle.gates.specs.Found.{isAnd};
 ghost use Rattle.gates.specs.Chains.{Chained};
 ghost use Rattle.passes.specs.Parts.{Ended};
-ghost use Rattle.passes.specs.Indexing.{netAt, FirstTwo, Ties, ListedAt, Listed, Indexed};
+ghost use Rattle.passes.specs.Indexing.{netAt, FirstTwo, Ties, Thens, ListedAt, Listed, Indexed};
+use crate::sides::place_after;
 use clauses::limits::MAX_ENTRIES;
 use gates::chain::link;
 use gates::fill::fill;
@@ -58,22 +59,40 @@ fn is_tied(marks: &[u8], q: usize, e: usize, first: usize, second: usize) -> boo
     second < e
 }
 
-// What the gates tie at place q of that clause.
-fn tie_of(marks: &[u8], q: usize, e: usize, first: usize, second: usize) -> u32
-    requires { ⌜ (q < e) × (e < length (now marks)) ⌝ }
-    ensures { λ r. ⌜ (r < 4) × ((b : ℕ) → FirstTwo (now (marks .entry)) b e first second → Ties (now (marks .entry)) b e q → r % 2 ≡ 1) × (2 ≤ getD (now (marks .entry)) q 0 → 2 ≤ r) ⌝ }
+// Whether place q of the clause from b up to its ending at e holds the literal t of a side.
+fn is_then(marks: &[u8], b: usize, e: usize, q: usize) -> bool
+    requires { ⌜ (b ≤ q) × (q < e) × (e ≤ length (now marks)) × (e ≤ maxEntries) ⌝ }
+    ensures { λ r. ⌜ (Thens (now (marks .entry)) b e q → r ≡ true) ⌝ }
 {
-    let tied = is_tied(marks, q, e, first, second);
-    if marks[q] < 2 {
-        if tied {
-            return 1;
-        }
-        return 0;
+    if e != b + 3 {
+        return false;
     }
-    if tied {
-        return 3;
+    let next = place_after(b, q);
+    if marks[next] / 2 % 2 == 1 {
+        return true;
     }
-    2
+    marks[place_after(b, next)] / 4 % 2 == 1
+}
+
+// The bit, if it is set.
+fn bit_if(set: bool, bit: u32) -> u32
+    ensures { λ r. ⌜ ((r ≡ 0) ⊎ (r ≡ bit)) × (set ≡ true → r ≡ bit) ⌝ }
+{
+    if set {
+        return bit;
+    }
+    0
+}
+
+// What place q of that clause is to its gates.
+fn tie_of(marks: &[u8], b: usize, e: usize, q: usize, first: usize, second: usize) -> u32
+    requires { ⌜ (b ≤ q) × (q < e) × (e < length (now marks)) × (e ≤ maxEntries) ⌝ }
+    ensures { λ r. ⌜ (r < 8) × (FirstTwo (now (marks .entry)) b e first second → Ties (now (marks .entry)) b e q → r % 2 ≡ 1) × (2 ≤ getD (now (marks .entry)) q 0 → r / 2 % 2 ≡ 1) × (Thens (now (marks .entry)) b e q → 4 ≤ r) ⌝ }
+{
+    let tied = bit_if(is_tied(marks, q, e, first, second), 1);
+    let select = bit_if(1 < marks[q], 2);
+    let then = bit_if(is_then(marks, b, e, q), 4);
+    tied + select + then
 }
 
 // Lists the places of the clause from b up to its ending at e.
@@ -86,7 +105,7 @@ fn list_places(marks: &[u8], b: usize, e: usize, starts: &mut [u32])
     let second = first_and(marks, first + 1, e);
     let mut q = b;
     while q < e {
-        starts[q] = (4 * b) as u32 + tie_of(marks, q, e, first, second);
+        starts[q] = (8 * b) as u32 + tie_of(marks, b, e, q, first, second);
         q += 1;
     }
 }

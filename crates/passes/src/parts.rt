@@ -13,6 +13,7 @@ ghost use Rattle.passes.specs.Parts.{Ended, Part, HoldsActive};
 ghost use Rattle.passes.specs.Indexing.{Listed, Indexed, startAt};
 ghost use Rattle.passes.specs.Taking.{Keeps, asSelect, SeesPlace, SeesNet, SeesMoved, Due, SeesDue, SeesTouched, HasMark, Sees, Laid, Taken, Took};
 use crate::touched::is_due;
+use crate::touched::is_idle;
 use crate::touched::next_moved;
 use crate::touched::next_touched;
 use crate::touched::touch;
@@ -81,7 +82,7 @@ fn take_clause(
     n + k
 }
 
-// Takes the clause of place q, whose lead has changed, and touches its leads.
+// Takes the clause of place q, whose lead has changed, and touches its leads, unless that tells nothing.
 fn take_changed(
     codes: &[u32],
     marks: &[u8],
@@ -102,10 +103,13 @@ fn take_changed(
     ensures keeps { λ _. ⌜ Keeps (now (seen .entry)) (now (seen .exit)) × Keeps (now (touched .entry)) (now (touched .exit)) ⌝ }
     ensures sees { λ _. ⌜ SeesPlace (now (codes .entry)) (now (starts .entry)) (now (old .entry)) (now (seen .exit)) (now (touched .exit)) q ⌝ }
 {
+    if is_idle(codes, starts, q, old) {
+        return n;
+    }
     let s = starts[q] as usize;
-    let b = s / 4;
+    let b = s / 8;
     let e = starts[MAX_ENTRIES + b] as usize;
-    touch(codes, starts, b, e, s % 2 == 1, old, touched);
+    touch(codes, starts, b, e, s % 2 == 1, 1 < s % 8, old, touched);
     take_clause(codes, marks, b, e, seen, part, tags, n)
 }
 
@@ -220,7 +224,7 @@ fn take_due(
     if s % 4 == 0 {
         return n;
     }
-    let b = s / 4;
+    let b = s / 8;
     if seen[b] != 0 {
         return n;
     }

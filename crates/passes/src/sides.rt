@@ -13,7 +13,7 @@ ghost use Rattle.passes.specs.Sides.{maxSides, sideCount, selectAt, outp
 use crate::sign::flipped;
 
 // The place after p in the clause of three literals at b, the first one coming after the last.
-fn place_after(b: usize, p: usize) -> usize
+pub fn place_after(b: usize, p: usize) -> usize
     requires { ⌜ (b ≤ maxEntries) × (p ≤ maxEntries) ⌝ }
     ensures { λ r. ⌜ r ≡ around b p ⌝ }
 {

@@ -1,8 +1,10 @@
 // The nets whose leads have changed, and the leads that changed clauses have: these are touched, and clauses that have them may be due.
 
 ghost use mathlib.Core.Path.{_≡_};
-ghost use mathlib.Core.Bool.{true, false};
-ghost use Prim.Native.Nat.{ℕ, _+_, _≤_, _<_};
+ghost use mathlib.Core.Logic.{_≢_};
+ghost use mathlib.Core.Bool.{true, false, _&&_};
+ghost use Prim.Native.Nat.{ℕ, _+_, _/_, _%_, _≤_, _<_};
+ghost use lib.Dec.{eqb};
 ghost use lib.ListN.{length, getD};
 ghost use Rattle.clauses.specs.Code.{net};
 ghost use Rattle.gates.specs.Found.{clauseAt};
@@ -75,28 +77,36 @@ fn touch_net(touched: &mut [u8], n: usize, select: bool)
     }
 }
 
-// Touches the lead at place q: as a select if it is one, and else if the tie counts.
+// Whether this counts, and the number is odd.
+fn counts(on: bool, x: u32) -> bool
+    ensures { λ r. ⌜ r ≡ (on && eqb (x % 2) 1) ⌝ }
+{
+    if on {
+        return x % 2 == 1;
+    }
+    false
+}
+
+// Touches the lead at place q: as a select if these count and it is one, and else if ties count and a gate ties it.
 fn touch_place(
     codes: &[u32],
     starts: &[u32],
     q: usize,
-    counts: bool,
+    ties: bool,
+    sides: bool,
     old: &[u32],
     touched: &mut [u8],
 )
     requires { ⌜ (q < length (now codes)) × (q < length (now starts)) ⌝ }
     requires { ⌜ ((p : ℕ) → asSelect (net (leadAt (now codes) (now old) p)) < length (now touched)) ⌝ }
-    ensures { λ _. ⌜ Keeps (now (touched .entry)) (now (touched .exit)) × TouchedBy counts (tieAt (now (starts .entry)) q) (now (touched .exit)) (net (leadAt (now (codes .entry)) (now (old .entry)) q)) ⌝ }
+    ensures { λ _. ⌜ Keeps (now (touched .entry)) (now (touched .exit)) × TouchedBy ties sides (tieAt (now (starts .entry)) q) (now (touched .exit)) (net (leadAt (now (codes .entry)) (now (old .entry)) q)) ⌝ }
 {
-    let tie = starts[q] % 4;
-    if tie == 0 {
-        return;
-    }
-    if 2 <= tie {
+    let tie = starts[q] % 8;
+    if counts(sides, tie / 2) {
         touch_net(touched, lead_net(codes, old, q), true);
         return;
     }
-    if counts {
+    if counts(ties, tie) {
         touch_net(touched, lead_net(codes, old, q), false);
     }
 }
@@ -107,19 +117,31 @@ pub fn touch(
     starts: &[u32],
     b: usize,
     e: usize,
-    counts: bool,
+    ties: bool,
+    sides: bool,
     old: &[u32],
     touched: &mut [u8],
 )
     requires { ⌜ (e ≤ length (now codes)) × (e ≤ length (now starts)) ⌝ }
     requires { ⌜ ((p : ℕ) → asSelect (net (leadAt (now codes) (now old) p)) < length (now touched)) ⌝ }
-    ensures { λ _. ⌜ Keeps (now (touched .entry)) (now (touched .exit)) × Touched (now (codes .entry)) (now (starts .entry)) (now (old .entry)) counts (now (touched .exit)) b e ⌝ }
+    ensures { λ _. ⌜ Keeps (now (touched .entry)) (now (touched .exit)) × Touched (now (codes .entry)) (now (starts .entry)) (now (old .entry)) ties sides (now (touched .exit)) b e ⌝ }
 {
     let mut q = b;
     while q < e {
-        touch_place(codes, starts, q, counts, old, touched);
+        touch_place(codes, starts, q, ties, sides, old, touched);
         q += 1;
     }
+}
+
+// Whether it tells nothing that the lead at place q has changed: the place is nothing to its gates, and the lead is no constant.
+pub fn is_idle(codes: &[u32], starts: &[u32], q: usize, old: &[u32]) -> bool
+    requires { ⌜ (q < length (now codes)) × (q < length (now starts)) ⌝ }
+    ensures { λ r. ⌜ (r ≡ true → (tieAt (now (starts .entry)) q ≡ 0) × (net (leadAt (now (codes .entry)) (now (old .entry)) q) ≢ 0)) ⌝ }
+{
+    if starts[q] % 8 != 0 {
+        return false;
+    }
+    lead_net(codes, old, q) != 0
 }
 
 // Whether net n is touched, and neither 0 nor `skip`.
@@ -186,9 +208,9 @@ fn first_touched(
 // Whether place q is that of a select, and net n touched as one.
 fn is_select_touched(starts: &[u32], q: usize, n: usize, touched: &[u8]) -> bool
     requires { ⌜ (q < length (now starts)) × (asSelect n < length (now touched)) ⌝ }
-    ensures { λ r. ⌜ (2 ≤ tieAt (now (starts .entry)) q → HasMark (now (touched .entry)) (asSelect n) → r ≡ true) ⌝ }
+    ensures { λ r. ⌜ (tieAt (now (starts .entry)) q / 2 % 2 ≡ 1 → HasMark (now (touched .entry)) (asSelect n) → r ≡ true) ⌝ }
 {
-    if starts[q] % 4 < 2 {
+    if starts[q] / 2 % 2 == 0 {
         return false;
     }
     touched[SELECTS + n] != 0

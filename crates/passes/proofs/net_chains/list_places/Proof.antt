@@ -43,7 +43,7 @@ cast-starts : tie.Need-cast-starts Inv-loop μ-loop
 cast-starts c = omega (arith, c .before .before .before .before .before .before .pre)
 
 tie-of-requires : tie.Need-tie-of-requires Inv-loop μ-loop
-tie-of-requires c κs = (c .loop-test .taken, c .before .before .before .before .before .before .pre .1)
+tie-of-requires c κs = (c .before .loop .inv .0, c .loop-test .taken, c .before .before .before .before .before .before .pre .1, c .before .before .before .before .before .before .pre .3)
 
 add-starts : tie.Need-add-starts Inv-loop μ-loop
 add-starts c = omega (arith, c .tie-of .ensures .0, c .before .before .before .before .before .before .before .pre)
@@ -67,7 +67,7 @@ loop-again c =
     let y = c .tie-of .ensures in
     let f : FirstTwo (a .marks .now) (a .b) (a .e) _ _ = record { one = c .before .before .before .before .first-and .ensures .1; two = c .before .before .before .first-and2 .ensures .1 } in (
       omega (arith, l .inv .0),
-      listed-on (a .marks .now) (l .starts) (a .b) (a .e) (l .q) (c .tie-of .result) (omega (arith, l .inv .3, c .before .before .before .before .before .before .before .pre)) (y .0) (y .1 (a .b) f) (y .2) (l .inv .1),
+      listed-on (a .marks .now) (l .starts) (a .b) (a .e) (l .q) (c .tie-of .result) (omega (arith, l .inv .3, c .before .before .before .before .before .before .before .pre)) (y .0) (y .1 f) (y .2) (y .3) (l .inv .1),
       λ k h. getD-set-other (l .starts) (l .q) k _ 0 (apart (a .b) (a .e) (l .q) k (l .inv .0) (c .before .loop-test .taken) h) ∙ l .inv .2 k h,
       length-set (l .starts) (l .q) _ ∙ l .inv .3,
       omega (arith, c .before .loop-test .taken),

@@ -1,8 +1,9 @@
 -- `passes::net_chains::tie_of` meets its contract.
 -- Assumes nothing.
-use mathlib.Core.Path.{sym, _∙_}
-use mathlib.Core.Bool.{true≢false}
 use native.Mathlib.Omega.{arith}
+use lib.ListN.{getD}
+use borrow.Author.Tests.{lt-ltb}
+use Rattle.passes.proofs.Indexing.{bits-low, bits-odd, bits-middle}
 use borrow.Author.Needs.{needs}
 use Rattle.passes.proofs.net_chains.tie_of.Statement.{statement}
 use Rattle.passes.proofs.net_chains.tie_of.Tie as tie
@@ -10,24 +11,50 @@ use Rattle.passes.proofs.net_chains.tie_of.Tie as tie
 is-tied-requires : tie.Need-is-tied-requires
 is-tied-requires c κs = search needs
 
-shared-slice-read-if1 : tie.Need-shared-slice-read-if1
-shared-slice-read-if1 c = search needs
+bit-if-requires : tie.Need-bit-if-requires
+bit-if-requires c κs = search needs
+
+shared-slice-read-bit-if : tie.Need-shared-slice-read-bit-if
+shared-slice-read-bit-if c = search needs
+
+bit-if-requires-2 : tie.Need-bit-if-requires-2
+bit-if-requires-2 c κs = search needs
+
+is-then-requires : tie.Need-is-then-requires
+is-then-requires c κs = search needs
+
+bit-if-requires-3 : tie.Need-bit-if-requires-3
+bit-if-requires-3 c κs = search needs
+
+add-result : tie.Need-add-result
+add-result c =
+    omega (arith, bits-low _ _ _ (c .before .before .before .before .bit-if .ensures .0) (c .before .before .bit-if2 .ensures .0) (c .bit-if3 .ensures .0))
+
+add-result-2 : tie.Need-add-result-2
+add-result-2 c =
+    omega (arith, bits-low _ _ _ (c .before .before .before .before .bit-if .ensures .0) (c .before .before .bit-if2 .ensures .0) (c .bit-if3 .ensures .0))
 
 returns : tie.Need-returns
-returns c = search needs
-
-returns-2 : tie.Need-returns-2
-returns-2 c =
-    (omega arith, λ b f t. absurd (true≢false (sym (c .before .before .before .is-tied .ensures b f t) ∙ c .if2 .left)), λ h. absurd (omega (arith, c .before .if1 .taken)))
-
-returns-3 : tie.Need-returns-3
-returns-3 c = search needs
-
-returns-4 : tie.Need-returns-4
-returns-4 c =
-    (omega arith, λ b f t. absurd (true≢false (sym (c .before .before .before .is-tied .ensures b f t) ∙ c .if3 .left)), λ h. omega arith)
+returns c =
+    let x = c .before .before .before .before .bit-if .ensures in
+    let y = c .before .before .bit-if2 .ensures in
+    let z = c .bit-if3 .ensures in (
+      bits-low _ _ _ (x .0) (y .0) (z .0),
+      λ f t. rw (x .1 (c .before .before .before .before .before .is-tied .ensures (c .before .before .before .before .before .before .before .args .b) f t)) (bits-odd _ _ (y .0) (z .0)),
+      λ h. rw (y .1 (lt-ltb 1 (getD (c .before .before .before .before .before .before .before .args .marks .now) (c .before .before .before .before .before .before .before .args .q) 0) (omega arith))) (bits-middle _ _ (x .0) (z .0)),
+      λ t. omega (arith, z .1 (c .before .is-then .ensures t)),
+    )
 
 pub tie-of-spec : {M : Type 1} → statement M
 tie-of-spec =
     tie.close
-    (tie.spec is-tied-requires shared-slice-read-if1 returns returns-2 returns-3 returns-4)
+    (tie.spec
+    is-tied-requires
+    bit-if-requires
+    shared-slice-read-bit-if
+    bit-if-requires-2
+    is-then-requires
+    bit-if-requires-3
+    add-result
+    add-result-2
+    returns)

@@ -15,11 +15,11 @@ use Rattle.passes.proofs.touched.touch.Statement.{statement}
 use Rattle.passes.proofs.touched.touch.Tie as tie
 
 abbrev Inv-loop : tie.InvT-loop
-Inv-loop codes starts b e counts old touched₀ q₀ touched q =
-    Keeps touched₀ touched × Touched codes starts old counts touched b q × (length touched ≡ length touched₀)
+Inv-loop codes starts b e ties sides old touched₀ q₀ touched q =
+    Keeps touched₀ touched × Touched codes starts old ties sides touched b q × (length touched ≡ length touched₀)
 
 abbrev μ-loop : tie.MeasureT-loop
-μ-loop codes starts b e counts old touched₀ q₀ touched q = e - q
+μ-loop codes starts b e ties sides old touched₀ q₀ touched q = e - q
 
 loop-holds : tie.Need-loop-holds Inv-loop μ-loop
 loop-holds c = (λ w h. h, λ q l h. absurd (omega arith), refl)
@@ -40,9 +40,9 @@ loop-again c =
     let l = c .before .before .before .before .before .loop in
     let y = c .before .before .touch-place in (
       λ x m. y .ensures .0 x (l .inv .0 x m),
-      places-more (λ k. TouchedBy (a .counts) (tieAt (a .starts .now) k) (y .last .1 .1 .1 .1 .1 .0) (net (leadAt (a .codes .now) (a .old .now) k))) (a .b) (l .q)
+      places-more (λ k. TouchedBy (a .ties) (a .sides) (tieAt (a .starts .now) k) (y .last .1 .1 .1 .1 .1 .1 .0) (net (leadAt (a .codes .now) (a .old .now) k))) (a .b) (l .q)
           (λ k i s. touched-keeps (y .ensures .0) (l .inv .1 k i s)) (y .ensures .1),
-      y .kept .1 .1 .1 .1 .1 .0 ∙ l .inv .2,
+      y .kept .1 .1 .1 .1 .1 .1 .0 ∙ l .inv .2,
     )
 
 same-length : tie.Need-same-length Inv-loop μ-loop

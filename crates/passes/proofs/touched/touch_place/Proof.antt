@@ -2,7 +2,7 @@
 -- Assumes nothing.
 use mathlib.Core.Path.{refl, sym, _∙_}
 use mathlib.Core.Bool.{true≢false}
-use native.Mathlib.Omega.{arith}
+use Rattle.passes.proofs.Taking.{counted}
 use borrow.Author.Needs.{needs}
 use Rattle.passes.proofs.touched.touch_place.Statement.{statement}
 use Rattle.passes.proofs.touched.touch_place.Tie as tie
@@ -13,9 +13,8 @@ mul-tie c = search needs
 shared-slice-read-tie : tie.Need-shared-slice-read-tie
 shared-slice-read-tie c = search needs
 
-returns : tie.Need-returns
-returns c =
-    (λ x h. h, record { tied = λ k h. absurd (omega (arith, c .if1 .taken)); select = λ h. absurd (omega (arith, c .if1 .taken)) })
+counts-requires : tie.Need-counts-requires
+counts-requires c κs = search needs
 
 lead-net-requires : tie.Need-lead-net-requires
 lead-net-requires c κs = search needs
@@ -27,30 +26,43 @@ touch-net-requires c κs =
 same-length : tie.Need-same-length
 same-length c = search needs
 
-returns-2 : tie.Need-returns-2
-returns-2 c =
+returns : tie.Need-returns
+returns c =
     let y = c .before .before .touch-net in
     let here = rw (c .before .before .before .lead-net .ensures) at (y .ensures .0 .1) in
-    (y .ensures .0 .0, record { tied = λ k h. here; select = λ h. (here, rw (c .before .before .before .lead-net .ensures) at (y .ensures .1 refl)) })
+    (y .ensures .0 .0, record { tied = λ k h. here; select = λ k h. (here, rw (c .before .before .before .lead-net .ensures) at (y .ensures .1 refl)) })
+
+counts-requires-2 : tie.Need-counts-requires-2
+counts-requires-2 c κs = search needs
 
 lead-net-requires-2 : tie.Need-lead-net-requires-2
 lead-net-requires-2 c κs = search needs
 
 touch-net-requires-2 : tie.Need-touch-net-requires-2
 touch-net-requires-2 c κs =
-    rw (c .lead-net2 .ensures) (c .before .before .before .before .before .before .before .before .before .before .pre .1 (c .before .before .before .before .before .before .before .before .before .before .args .q))
+    rw (c .lead-net2 .ensures) (c .before .before .before .before .before .before .before .before .before .before .before .pre .1 (c .before .before .before .before .before .before .before .before .before .before .before .args .q))
 
 same-length-2 : tie.Need-same-length-2
 same-length-2 c = search needs
 
-returns-3 : tie.Need-returns-3
-returns-3 c =
-    let y = c .before .before .touch-net2 in
-    (y .ensures .0 .0, record { tied = λ k h. rw (c .before .before .before .lead-net2 .ensures) at (y .ensures .0 .1); select = λ h. absurd (omega (arith, c .before .before .before .before .before .before .if2 .left)) })
+returns-2 : tie.Need-returns-2
+returns-2 c =
+    let y = c .before .before .touch-net2 in (
+      y .ensures .0 .0,
+      record {
+        tied = λ k h. rw (c .before .before .before .lead-net2 .ensures) at (y .ensures .0 .1);
+        select = λ k h. absurd (true≢false (sym (counted _ _ k h) ∙ sym (c .before .before .before .before .before .before .before .before .counts .ensures) ∙ c .before .before .before .before .before .before .before .if1 .left));
+      },
+    )
 
-returns-4 : tie.Need-returns-4
-returns-4 c =
-    (λ x h. h, record { tied = λ k h. absurd (true≢false (sym k ∙ c .if3 .left)); select = λ h. absurd (omega (arith, c .before .if2 .left)) })
+returns-3 : tie.Need-returns-3
+returns-3 c = (
+  λ x h. h,
+  record {
+    tied = λ k h. absurd (true≢false (sym (counted _ _ k h) ∙ sym (c .before .counts2 .ensures) ∙ c .if2 .left));
+    select = λ k h. absurd (true≢false (sym (counted _ _ k h) ∙ sym (c .before .before .before .counts .ensures) ∙ c .before .before .if1 .left));
+  },
+)
 
 pub touch-place-spec : {M : Type 1} → statement M
 touch-place-spec =
@@ -58,13 +70,14 @@ touch-place-spec =
     (tie.spec
     mul-tie
     shared-slice-read-tie
-    returns
+    counts-requires
     lead-net-requires
     touch-net-requires
     same-length
-    returns-2
+    returns
+    counts-requires-2
     lead-net-requires-2
     touch-net-requires-2
     same-length-2
-    returns-3
-    returns-4)
+    returns-2
+    returns-3)

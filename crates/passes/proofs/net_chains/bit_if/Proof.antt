@@ -1,0 +1,16 @@
+-- `passes::net_chains::bit_if` meets its contract.
+-- Assumes nothing.
+use mathlib.Core.Path.{refl, sym, _∙_}
+use mathlib.Core.Logic.{inl, inr}
+use mathlib.Core.Bool.{true≢false}
+use Rattle.passes.proofs.net_chains.bit_if.Statement.{statement}
+use Rattle.passes.proofs.net_chains.bit_if.Tie as tie
+
+returns : tie.Need-returns
+returns c = (inr refl, λ s. refl)
+
+returns-2 : tie.Need-returns-2
+returns-2 c = (inl refl, λ s. absurd (true≢false (sym s ∙ c .if1 .left)))
+
+pub bit-if-spec : {M : Type 1} → statement M
+bit-if-spec = tie.close (tie.spec returns returns-2)
