@@ -11,3 +11,6 @@ pub const MAX_CLAUSES: u32 = 4096;
 
 // Entries of a literal row.
 pub const MAX_ENTRIES: usize = 16384;
+
+// The codes of literals and constants are below this.
+pub const CODES: usize = 2 * MAX_NETS as usize + 2;

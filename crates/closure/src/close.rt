@@ -16,16 +16,33 @@ use crate::run::run;
 use clauses::checks::Check;
 use clauses::checks::check_entries;
 use clauses::checks::check_sizes;
+use clauses::limits::CODES;
+use clauses::limits::MAX_ENTRIES;
+use clauses::limits::MAX_NETS;
 use clauses::refusal::Refusal;
 use clauses::tally::tally_row;
 use gates::fill::fill;
 use gates::finder::find_gates;
+use passes::index::index_row;
 use passes::lead::first_leads;
-use passes::net_chains::index_row;
 use rules::Verdict;
+
+// Entries of a row of leads.
+const NETS: usize = MAX_NETS as usize;
 
 // Entries of the work row (specs/Closing.antt).
 const MAX_WORK: usize = 16384;
+
+// Entries of the rows that rounds work in (passes::specs::Scratch).
+const STARTS: usize = 2 * MAX_ENTRIES;
+
+const PLACES: usize = MAX_NETS as usize + 1;
+
+const HEADS: usize = 8192;
+
+const LINKS: usize = 4 * MAX_ENTRIES;
+
+const SIDES: usize = 6 * MAX_ENTRIES;
 
 // How closing ends, the numbers of gates, and the groups left.
 pub struct Summary {
@@ -58,18 +75,18 @@ fn close_codes(
     ensures { λ r. ⌜ ended (r .verdict) (r .rounds) (now (leads .exit)) ≡ closed (length (now (leads .entry))) (clausesIn (now (codes .entry))) limit ⌝ }
     ensures { λ r. ⌜ r .groups ≡ length (own (length (now (leads .entry))) (now (leads .exit))) ⌝ }
 {
-    let mut starts = [0u32; 32768];
-    let mut places = [0u32; 1025];
-    let mut links = [0u32; 16384];
-    let mut touched = [0u8; 2050];
-    let mut seen = [0u8; 16384];
-    let mut part = [0u32; 16384];
-    let mut tags = [0u8; 16384];
-    let mut keys = [0u64; 16384];
-    let mut values = [0u32; 16384];
-    let mut heads = [0u32; 8192];
-    let mut chain = [0u32; 65536];
-    let mut sides = [0u32; 98304];
+    let mut starts = [0u32; STARTS];
+    let mut places = [0u32; PLACES];
+    let mut links = [0u32; MAX_ENTRIES];
+    let mut touched = [0u8; CODES];
+    let mut seen = [0u8; MAX_ENTRIES];
+    let mut part = [0u32; MAX_ENTRIES];
+    let mut tags = [0u8; MAX_ENTRIES];
+    let mut keys = [0u64; MAX_ENTRIES];
+    let mut values = [0u32; MAX_ENTRIES];
+    let mut heads = [0u32; HEADS];
+    let mut chain = [0u32; LINKS];
+    let mut sides = [0u32; SIDES];
     index_row(codes, marks, &mut starts, &mut places, &mut links);
     first_leads(leads);
     first_leads(next);
@@ -170,10 +187,10 @@ fn close_rounds(v: u32, row: &[i32], limit: u32, leads: &mut [u32], work: &mut [
     requires { ⌜ Passed v (now row) (now leads) (now work) ⌝ }
     ensures { λ r. ⌜ record { result = r; leads = now (leads .exit); work = now (work .exit) } ≡ closeRounds v (now (row .entry)) limit (now (leads .entry)) (now (work .entry)) ⌝ }
 {
-    let mut codes = [0u32; 16384];
-    let mut marks = [0u8; 16384];
-    let mut next = [0u32; 1024];
-    let mut older = [0u32; 1024];
+    let mut codes = [0u32; MAX_ENTRIES];
+    let mut marks = [0u8; MAX_ENTRIES];
+    let mut next = [0u32; NETS];
+    let mut older = [0u32; NETS];
     close_in(
         v,
         row,

@@ -4,10 +4,13 @@ use crate::and::list_twos;
 use crate::counts::Counts;
 use crate::fill::clear;
 use crate::first::list_kinds;
+use crate::index::BUCKETS;
 use crate::ites::mark_ites;
 use crate::mark::mark_clauses;
 use crate::mark::mark_pairs;
 use crate::prepare::prepare;
+use clauses::limits::CODES;
+use clauses::limits::MAX_ENTRIES;
 ghost use mathlib.Core.Path.{_≡_};
 ghost use mathlib.Core.Logic.{_↔_};
 ghost use mathlib.Core.List.{List, map};
@@ -22,6 +25,11 @@ ghost use Rattle.gates.specs.Found.{Found};
 ghost use Rattle.gates.specs.Normal.{Normal, normalRow, maxCode, SmallEntries};
 ghost use Rattle.gates.specs.Index.{Indexed};
 ghost use Rattle.gates.specs.Ites.{Room};
+
+// Entries of the index of clauses, and of the chains of halves.
+const INDEX: usize = BUCKETS + MAX_ENTRIES;
+
+const HALVES: usize = 2 * MAX_ENTRIES;
 
 // Marks the gates of a row of codes, whatever the marks held, and counts them.
 fn mark_gates(
@@ -76,11 +84,11 @@ pub fn find_gates(row: &[i32], codes: &mut [u32], marks: &mut [u8]) -> Finding
     ensures { λ _. ⌜ drop (length (normalRow (now (row .entry)))) (now (marks .exit)) ≡ drop (length (normalRow (now (row .entry)))) (now (marks .entry)) ⌝ }
     ensures { λ r. ⌜ AreCounts (clausesOf (now (row .entry))) (r .counts .ands) (r .counts .xors) (r .counts .ites) ⌝ }
 {
-    let mut index = [0u32; 20480];
-    let mut kinds = [0u8; 16384];
-    let mut seen = [0u32; 2050];
-    let mut heads = [0u32; 32768];
-    let mut chain = [0u32; 32768];
+    let mut index = [0u32; INDEX];
+    let mut kinds = [0u8; MAX_ENTRIES];
+    let mut seen = [0u32; CODES];
+    let mut heads = [0u32; HALVES];
+    let mut chain = [0u32; HALVES];
     let n = prepare(row, codes, &mut index, &mut seen);
     let counts = mark_gates(
         &codes[..n],

@@ -17,10 +17,8 @@ use crate::sides::select_of;
 use crate::sides::then_of;
 use crate::sign::flipped;
 use crate::tally::Tally;
+use clauses::limits::CODES;
 use gates::fill::fill;
-
-// A slot for each literal and constant.
-const SLOTS: usize = 2050;
 
 // Rule 7 for side i, by its select.
 fn by_select(sides: &[u32], i: usize, old: &[u32], new: &mut [u32], t: Tally) -> Tally
@@ -462,5 +460,5 @@ pub fn by_ites(
     if sides.len() == 0 {
         return t;
     }
-    by_sides(sides, heads, next, old, &mut slots[..SLOTS], new, t)
+    by_sides(sides, heads, next, old, &mut slots[..CODES], new, t)
 }

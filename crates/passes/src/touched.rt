@@ -12,9 +12,10 @@ ghost use Rattle.passes.specs.Passing.{leadAt, First};
 ghost use Rattle.passes.specs.Indexing.{startAt, tieAt};
 ghost use Rattle.passes.specs.Taking.{hasMoved, isTouched, HasMark, Keeps, asSelect, TouchedBy, Touched, Due};
 use crate::lead::lead_of;
+use clauses::limits::MAX_NETS;
 
 // Where the entries of the nets as selects begin.
-const SELECTS: usize = 1025;
+const SELECTS: usize = MAX_NETS as usize + 1;
 
 // Nets of a block that is searched for changes at once.
 const BLOCK: usize = 64;

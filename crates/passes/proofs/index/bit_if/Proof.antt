@@ -1,10 +1,10 @@
--- `passes::net_chains::bit_if` meets its contract.
+-- `passes::index::bit_if` meets its contract.
 -- Assumes nothing.
 use mathlib.Core.Path.{refl, sym, _∙_}
 use mathlib.Core.Logic.{inl, inr}
 use mathlib.Core.Bool.{true≢false}
-use Rattle.passes.proofs.net_chains.bit_if.Statement.{statement}
-use Rattle.passes.proofs.net_chains.bit_if.Tie as tie
+use Rattle.passes.proofs.index.bit_if.Statement.{statement}
+use Rattle.passes.proofs.index.bit_if.Tie as tie
 
 returns : tie.Need-returns
 returns c = (inr refl, λ s. refl)

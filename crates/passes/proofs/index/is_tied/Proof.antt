@@ -1,10 +1,10 @@
--- `passes::net_chains::is_tied` meets its contract.
+-- `passes::index::is_tied` meets its contract.
 -- Assumes nothing.
 use borrow.Author.Tests.{lt-ltb}
 use Rattle.passes.proofs.Indexing.{tied-first, tied-second}
 use borrow.Author.Needs.{needs}
-use Rattle.passes.proofs.net_chains.is_tied.Statement.{statement}
-use Rattle.passes.proofs.net_chains.is_tied.Tie as tie
+use Rattle.passes.proofs.index.is_tied.Statement.{statement}
+use Rattle.passes.proofs.index.is_tied.Tie as tie
 
 shared-slice-read-if1 : tie.Need-shared-slice-read-if1
 shared-slice-read-if1 c = search needs

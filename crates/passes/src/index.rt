@@ -1,4 +1,4 @@
-// The places of a row by their nets, the start and the ending of the clause of each, and what its gates tie: made once for a row of clauses.
+// The index of a row: the places of each net, the clause of each place and what the place is to its gates. It is made once for a row of clauses.
 
 ghost use mathlib.Core.Path.{_≡_};
 ghost use mathlib.Core.Bool.{true};

@@ -1,4 +1,4 @@
--- `passes::net_chains::list_places` meets its contract.
+-- `passes::index::list_places` meets its contract.
 -- Assumes nothing.
 use mathlib.Core.Path.{_≡_, refl, _∙_}
 use mathlib.Core.Logic.{_≢_, _⊎_, inl, inr}
@@ -9,8 +9,8 @@ use lib.Seq.{getD-set-other}
 use Rattle.passes.specs.Indexing.{FirstTwo, ListedAt}
 use Rattle.passes.proofs.Indexing.{listed-on}
 use borrow.Author.Needs.{needs}
-use Rattle.passes.proofs.net_chains.list_places.Statement.{statement}
-use Rattle.passes.proofs.net_chains.list_places.Tie as tie
+use Rattle.passes.proofs.index.list_places.Statement.{statement}
+use Rattle.passes.proofs.index.list_places.Tie as tie
 
 abbrev Inv-loop : tie.InvT-loop
 Inv-loop marks b e starts₀ first second q₀ starts q =

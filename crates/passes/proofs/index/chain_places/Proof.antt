@@ -1,4 +1,4 @@
--- `passes::net_chains::chain_places` meets its contract.
+-- `passes::index::chain_places` meets its contract.
 -- Assumes nothing.
 use mathlib.Core.Path.{_≡_, refl, sym, _∙_, ap}
 use Prim.Native.Nat.{ℕ, _-_, _≤_, _<_}
@@ -9,8 +9,8 @@ use Rattle.gates.specs.Chains.{Chained}
 use Rattle.gates.proofs.Chains.{chain-none, chain-linked}
 use Rattle.passes.specs.Indexing.{netAt}
 use borrow.Author.Needs.{needs}
-use Rattle.passes.proofs.net_chains.chain_places.Statement.{statement}
-use Rattle.passes.proofs.net_chains.chain_places.Tie as tie
+use Rattle.passes.proofs.index.chain_places.Statement.{statement}
+use Rattle.passes.proofs.index.chain_places.Tie as tie
 
 abbrev Inv-loop : tie.InvT-loop
 Inv-loop codes heads₀ next₀ q₀ heads next q = (length heads ≡ length heads₀) × (length next ≡ length next₀) × (q ≤ length codes) × Chained (netAt codes) q heads next

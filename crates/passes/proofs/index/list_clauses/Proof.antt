@@ -1,4 +1,4 @@
--- `passes::net_chains::list_clauses` meets its contract.
+-- `passes::index::list_clauses` meets its contract.
 -- Assumes nothing.
 use mathlib.Core.Path.{_≡_, refl, _∙_}
 use mathlib.Core.List.{List}
@@ -11,8 +11,8 @@ use Rattle.passes.specs.Parts.{Ended}
 use Rattle.passes.specs.Indexing.{ListedBelow}
 use Rattle.passes.proofs.Indexing.{starts-behind, listed-more}
 use borrow.Author.Needs.{needs}
-use Rattle.passes.proofs.net_chains.list_clauses.Statement.{statement}
-use Rattle.passes.proofs.net_chains.list_clauses.Tie as tie
+use Rattle.passes.proofs.index.list_clauses.Statement.{statement}
+use Rattle.passes.proofs.index.list_clauses.Tie as tie
 
 abbrev Inv-loop : tie.InvT-loop
 Inv-loop codes marks starts₀ b₀ starts b =

@@ -1,4 +1,4 @@
--- `passes::net_chains::is_then` meets its contract.
+-- `passes::index::is_then` meets its contract.
 -- Assumes nothing.
 use mathlib.Core.Path.{_∙_, ap}
 use mathlib.Core.Logic.{⊎-elim}
@@ -10,8 +10,8 @@ use Rattle.gates.specs.Found.{around}
 use Rattle.gates.proofs.Threes.{around-in}
 use Rattle.passes.proofs.Indexing.{then-by}
 use borrow.Author.Needs.{needs}
-use Rattle.passes.proofs.net_chains.is_then.Statement.{statement}
-use Rattle.passes.proofs.net_chains.is_then.Tie as tie
+use Rattle.passes.proofs.index.is_then.Statement.{statement}
+use Rattle.passes.proofs.index.is_then.Tie as tie
 
 add-if1 : tie.Need-add-if1
 add-if1 c = search needs

@@ -1,4 +1,4 @@
--- `passes::net_chains::first_and` meets its contract.
+-- `passes::index::first_and` meets its contract.
 -- Assumes nothing.
 use mathlib.Core.Path.{_≡_}
 use mathlib.Core.Bool.{true}
@@ -8,8 +8,8 @@ use lib.ListN.{getD}
 use Rattle.gates.specs.Found.{isAnd}
 use Rattle.passes.proofs.Indexing.{and-further}
 use borrow.Author.Needs.{needs}
-use Rattle.passes.proofs.net_chains.first_and.Statement.{statement}
-use Rattle.passes.proofs.net_chains.first_and.Tie as tie
+use Rattle.passes.proofs.index.first_and.Statement.{statement}
+use Rattle.passes.proofs.index.first_and.Tie as tie
 
 abbrev Inv-loop : tie.InvT-loop
 Inv-loop marks from to p₀ p = (from ≤ to → p ≤ to) × ((k : ℕ) → from ≤ k → k < to → isAnd (getD marks k 0) ≡ true → p ≤ k)

@@ -1,12 +1,12 @@
--- `passes::net_chains::tie_of` meets its contract.
+-- `passes::index::tie_of` meets its contract.
 -- Assumes nothing.
 use native.Mathlib.Omega.{arith}
 use lib.ListN.{getD}
 use borrow.Author.Tests.{lt-ltb}
 use Rattle.passes.proofs.Indexing.{bits-low, bits-odd, bits-middle}
 use borrow.Author.Needs.{needs}
-use Rattle.passes.proofs.net_chains.tie_of.Statement.{statement}
-use Rattle.passes.proofs.net_chains.tie_of.Tie as tie
+use Rattle.passes.proofs.index.tie_of.Statement.{statement}
+use Rattle.passes.proofs.index.tie_of.Tie as tie
 
 is-tied-requires : tie.Need-is-tied-requires
 is-tied-requires c κs = search needs

@@ -1,12 +1,12 @@
--- `passes::net_chains::index_row` meets its contract.
+-- `passes::index::index_row` meets its contract.
 -- Assumes nothing.
 use mathlib.Core.Path.{_∙_, ap}
 use native.Mathlib.Omega.{arith}
 use Prim.Native.Nat.{ℕ}
 use lib.ListN.{replicate}
 use borrow.Author.Needs.{needs}
-use Rattle.passes.proofs.net_chains.index_row.Statement.{statement}
-use Rattle.passes.proofs.net_chains.index_row.Tie as tie
+use Rattle.passes.proofs.index.index_row.Statement.{statement}
+use Rattle.passes.proofs.index.index_row.Tie as tie
 
 list-clauses-requires : tie.Need-list-clauses-requires
 list-clauses-requires c κs = search needs
