@@ -1,16 +1,12 @@
 -- What the finder leaves says the same of every list with the same clauses, and has the computed counts.
 -- Assumes nothing.
-use mathlib.Core.Path.{_≡_}
 use mathlib.Core.Logic.{_↔_}
 use mathlib.Core.List.{List}
 use Prim.Native.Nat.{ℕ}
 use Rattle.clauses.specs.Clause.{Present}
-use Rattle.clauses.specs.Listing.{Fits}
 use Rattle.gates.specs.Gate.{AndGate, IteGate}
-use Rattle.gates.specs.Counted.{AreCounts}
 use Rattle.gates.specs.Count.{andCount, xorCount, iteCount}
 use Rattle.gates.specs.Found.{Found}
-use Rattle.gates.proofs.Counted.{andCount-only, xorCount-only, iteCount-only}
 use Rattle.gates.proofs.XorMarks.{xor-present}
 
 and-present : {cs ds : List (List ℕ)} {c : List ℕ} {l : ℕ} → ((d : List ℕ) → Present cs d → Present ds d) → AndGate cs c l → AndGate ds c l
@@ -55,8 +51,3 @@ found-same {cs} {ds} same f =
 
     back : (c : List ℕ) → Present ds c → Present cs c
     back c = same c .1
-
-pub counts-are : (v : ℕ) {cs : List (List ℕ)} {ands xors ites : ℕ} → Fits v cs → AreCounts cs ands xors ites
-    → (ands ≡ andCount cs) × (xors ≡ xorCount v cs) × (ites ≡ iteCount v cs)
-counts-are v {cs} {ands} {xors} {ites} fit k =
-    (andCount-only cs ands .0 (k .and-count), xorCount-only v cs fit xors .0 (k .xor-count), iteCount-only v cs fit ites .0 (k .ite-count))

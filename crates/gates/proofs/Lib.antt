@@ -7,7 +7,6 @@ pub mod Counting
 pub mod Counted
 pub mod Renamed
 pub mod Rows
-pub mod Walking
 pub mod Places
 pub mod Walks
 pub mod Fills

@@ -1,6 +1,6 @@
 -- Laws of the normal form: it has the clauses of the list, each literal once.
 -- Assumes nothing.
-use mathlib.Core.Path.{_≡_, refl, sym, _∙_, ap, subst, subst⁻¹}
+use mathlib.Core.Path.{_≡_, refl, sym, _∙_, ap, subst}
 use mathlib.Core.Logic.{_≢_, _⊎_, inl, inr, _↔_}
 use mathlib.Core.Bool.{true, false, not, true≢false}
 use mathlib.Core.List.{List, [], _∷_, _++_, map, List·Memᴰ, List·Memᴰ·head, List·Memᴰ·tail, List·Memᴰ·append-cases, List·Memᴰ·not-nil}
@@ -23,7 +23,7 @@ use Rattle.clauses.proofs.Distinct.{Distinct, empty, more, keep-distinct}
 use Rattle.clauses.proofs.Clauses.{same-refl, same-sym, same-trans, tautology-is, is-tautology}
 use Rattle.gates.specs.Found.{clauseAt, Starts, LiteralAt}
 use Rattle.gates.specs.Normal.{firsts, normal, rowOf, normalRow, maxCode, Normal, SmallEntries}
-use Rattle.gates.proofs.Rows.{clause-at, starts-listed, listed-starts, placed, mem-at, clauses-some, distinct-places}
+use Rattle.gates.proofs.Rows.{clause-at, starts-listed, placed, mem-at, clauses-some, distinct-places}
 use Rattle.gates.proofs.Normalising.{code-bound, ended-inside, firsts-length, normal-ignored, normal-kept}
 
 -- Each literal once
@@ -211,19 +211,6 @@ module _ (row : List ℤ) where
   -- the same clauses are present
   pub normal-present : (c : List ℕ) → Present (clausesOf row) c ↔ Present (clausesIn (normalRow row)) c
   normal-present c = rw normal-clauses (present-normal (clausesOf row) c)
-
-  -- every clause of the normal form is present, and every one that is present stands in it
-  pub normal-clause-is : (b : ℕ) → Starts (normalRow row) b → Present (clausesOf row) (clauseAt (normalRow row) b)
-  normal-clause-is b s =
-      let m = starts-listed (normalRow row) b s in
-      normal-present (clauseAt (normalRow row) b) .1
-      (record { found = clauseAt (normalRow row) b; listed = m; proper = normal-proper (clausesOf row) (clauseAt (normalRow row) b) (rw normal-clauses at m); same = same-refl (clauseAt (normalRow row) b) })
-
-  pub normal-clause-found : (c : List ℕ) → Present (clausesOf row) c → (b : ℕ) × Starts (normalRow row) b × Same c (clauseAt (normalRow row) b)
-  normal-clause-found c p =
-      let q = normal-present c .0 p in
-      let s = listed-starts (normalRow row) (q .found) (q .listed) in
-      (s .place, s .start, subst⁻¹ (Same c) (s .is) (q .same))
 
   module _ (ends : getD (map codeOf row) (length row - 1) 0 ≡ 0) where
     pub normal-length : length (normalRow row) ≤ length row

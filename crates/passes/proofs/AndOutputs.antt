@@ -291,7 +291,7 @@ ending-is row b p e k h f = go (decLt e (b + length (clauseAt row b))) (decLt (b
     go (no l) (yes m) = absurd (eqb-false _ _ (f .before (b + length (clauseAt row b)) (omega (arith, k .high)) m) (clause-ended row b))
     go (no l) (no m) = omega arith
 
-pub and-later : {row old new new′ : List ℕ} {t t′ : Tally} {b p : ℕ} → Later new t new′ t′ → AndJoined row old new t b p → AndJoined row old new′ t′ b p
+and-later : {row old new new′ : List ℕ} {t t′ : Tally} {b p : ℕ} → Later new t new′ t′ → AndJoined row old new t b p → AndJoined row old new′ t′ b p
 and-later f a =
     record {
       and-false = λ r i h. f _ _ (a .and-false r i h);

@@ -15,7 +15,7 @@ use Rattle.clauses.proofs.Clauses.{same-sym}
 use Rattle.gates.specs.Gate.{Input, AndGate}
 use Rattle.gates.specs.Found.{clauseAt, Starts, LiteralAt, isAnd, Found}
 use Rattle.gates.proofs.Rows.{literal-some}
-use Rattle.gates.proofs.Walking.{literal-inside}
+use Rattle.passes.proofs.Walking.{literal-inside}
 use Rattle.gates.specs.Mark.{startOf}
 use Rattle.gates.proofs.StartOf.{literal-start}
 use Rattle.gates.proofs.Chains.{chain-none, chain-passed, chain-linked, WalkIn, walk-end}
@@ -60,7 +60,7 @@ alike-back a = record { left = a .right; right = a .left }
 pub alike-chain : {row old : List ℕ} {p q r : ℕ} → Alike row old p q → Alike row old q r → Alike row old p r
 alike-chain a b = record { left = λ x k. b .left x (a .left x k); right = λ x k. a .right x (b .right x k) }
 
-pub alike-same : (row old : List ℕ) (p : ℕ) → Alike row old p p
+alike-same : (row old : List ℕ) (p : ℕ) → Alike row old p p
 alike-same row old p = record { left = λ x k. k; right = λ x k. k }
 
 -- equal sets are in one bucket
@@ -72,7 +72,7 @@ module _ {row old : List ℕ} {p q : ℕ} (a : Alike row old p q) where
       go (inl z) = inl z
       go (inr (x, t, e)) = inr (x, a .left x t, e)
 
-  pub bucket-move : {m h : ℕ} → Bucket row old m p h → Bucket row old m q h
+  bucket-move : {m h : ℕ} → Bucket row old m p h → Bucket row old m q h
   bucket-move b =
       record {
         one = b .one;
@@ -97,7 +97,7 @@ module _ {row old : List ℕ} {p : ℕ} where
   largest-once : {k r s : ℕ} → Largest row old k p r → Largest row old k p s → r ≡ s
   largest-once f g = omega (arith, largest-low f g, largest-low g f)
 
-  pub bucket-once : {m g h : ℕ} → Bucket row old m p g → Bucket row old m p h → g ≡ h
+  bucket-once : {m g h : ℕ} → Bucket row old m p g → Bucket row old m p h → g ≡ h
   bucket-once {m} a b =
       rw (largest-once (a .first) (b .first), largest-once (a .second) (b .second), largest-once (a .third) (b .third), largest-once (a .fourth) (b .fourth)) at (a .is) ∙ sym (b .is)
 
@@ -207,10 +207,10 @@ rule4 {cs} {row} {marks} {old} {new} {t} found joined = record { and-and = λ c 
 -- The table
 
 module _ {row marks old : List ℕ} {m : ℕ} {heads next : List ℕ} {p : ℕ} (t : Table row marks old m heads next p) where
-  pub table-skip : ¬ Leads row marks old p → Table row marks old m heads next (p + 1)
+  table-skip : ¬ Leads row marks old p → Table row marks old m heads next (p + 1)
   table-skip n = record { size = t .size; room = t .room; chains = chain-passed _ p heads next (t .chains) (λ h d. n (d .leads)) }
 
-  pub table-enter : (h : ℕ) → h < m → p < length row → Leads row marks old p → Bucket row old m p h
+  table-enter : (h : ℕ) → h < m → p < length row → Leads row marks old p → Bucket row old m p h
       → (heads′ next′ : List ℕ) → heads′ ≡ set heads h (p + 1) → next′ ≡ set next p (getD heads h 0) → Table row marks old m heads′ next′ (p + 1)
   table-enter h l k a b heads′ next′ e f =
       record {

@@ -12,7 +12,7 @@ use lib.Dec.{eqb, ltb}
 use lib.ListN.{length, getD}
 use borrow.Author.Tests.{lt-ltb, le-ltb, eq-eqb, ne-eqb}
 use Rattle.gates.specs.Found.{clauseAt, LiteralAt}
-use Rattle.gates.proofs.Walking.{literal-inside}
+use Rattle.passes.proofs.Walking.{literal-inside}
 use Rattle.gates.specs.Mark.{startOf}
 use Rattle.passes.specs.Passing.{leadAt, isWith, First, isEnding, Tells}
 use Rattle.passes.specs.Holding.{Holds}
@@ -152,7 +152,7 @@ module _ {row : List ℕ} {p b e : ℕ} (span : Spans row p b e) where
 pub mix-fits : (x k : ℕ) → k < 65536 → x % 65536 * k ≤ 4294836225
 mix-fits x k h = mul-le-mul {n₂ = 65535} {m₂ = 65535} (omega arith) (omega arith)
 
-pub mix-small : (k x : ℕ) → mix k x ≤ 65536
+mix-small : (k x : ℕ) → mix k x ≤ 65536
 unfolding mix
 mix-small k x = omega arith
 

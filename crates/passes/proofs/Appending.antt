@@ -12,7 +12,7 @@ use Rattle.gates.specs.Found.{clauseAt, Starts}
 use Rattle.gates.proofs.Rows.{clause-goes-on, clause-stops, clause-ended, literal-some, starts-apart}
 use Rattle.passes.specs.Parts.{Ended, Copy, Part, Active, HoldsActive}
 use Rattle.passes.specs.Taking.{HasMark, Keeps, markCount, Sees, Laid, Taken, Took}
-use Rattle.passes.proofs.Maps.{zeros}
+use Rattle.gates.proofs.Fills.{zero-at}
 use Rattle.passes.proofs.MarkCounts.{count-none, count-fits}
 
 -- clauses are the same where their entries and the 0 behind them are
@@ -160,7 +160,7 @@ module _ (codes marks : List ℕ) where
       }
     where
       unmarked : (q : ℕ) → getD seen q 0 ≡ 0
-      unmarked q = ap (λ (l : List ℕ). getD l q 0) e ∙ zeros m q
+      unmarked q = ap (λ (l : List ℕ). getD l q 0) e ∙ zero-at m q
 
   module _ (seen part tags : List ℕ) (n b : ℕ) (t : Taken codes marks seen part tags n) (s : Starts codes b) (k : ℕ) (whole : k ≡ length (clauseAt codes b) + 1) where
     -- a clause that is not seen is seen nowhere

@@ -16,14 +16,14 @@ use Rattle.clauses.proofs.Lists.{in-first, in-second}
 use Rattle.clauses.proofs.Codes.{negate-negate, net-negate}
 use Rattle.gates.specs.Found.{clauseAt, Starts, LiteralAt, isPair, Found}
 use Rattle.gates.proofs.Rows.{clause-at, literal-in, LiteralOf, literal-of}
-use Rattle.gates.proofs.Walking.{Walk, walk-starts}
 use Rattle.rules.specs.Rule.{Concludes}
 use Rattle.rules.specs.Grouping.{Closure}
 use Rattle.passes.specs.Making.{Kernel, Drawn, Making, JoinedBy, Later, Rule1, Rule2}
 use Rattle.passes.specs.Joining.{joinState}
-use Rattle.passes.specs.Passing.{leadAt, isOther, First, UnitJoined, ClauseJoined}
+use Rattle.passes.specs.Passing.{leadAt, isOther, First, UnitJoined, ClauseJoined, Reached}
 use Rattle.passes.specs.Marked.{Marked, Ready, Went}
 use Rattle.passes.specs.declared.tally.Tally.{Tally}
+use Rattle.passes.proofs.Walking.{reached-starts}
 use Rattle.passes.proofs.Searches.{lead-false, other-is, not-other}
 use Rattle.passes.proofs.JoinedBy.{drawn-old, drawn-new, joined-back, joined-chain, joined-inverses, joined-clash}
 use Rattle.passes.proofs.Going.{found-marked, went-none, went-then, went-making, ready-on, ready-net, join-went}
@@ -153,7 +153,7 @@ module _ (row old : List ℕ) (b ending : ℕ) (start : Starts row b) (end-is : 
 
 -- Rule 2
 
-pub unit-later : {row old new new′ : List ℕ} {t t′ : Tally} {b : ℕ} → Later new t new′ t′ → UnitJoined row old new t b → UnitJoined row old new′ t′ b
+unit-later : {row old new new′ : List ℕ} {t t′ : Tally} {b : ℕ} → Later new t new′ t′ → UnitJoined row old new t b → UnitJoined row old new′ t′ b
 unit-later l u = record { unit = λ k i h. l k 1 (u .unit k i h); empty-clause = λ z. l 1 0 (u .empty-clause z) }
 
 module _ (row marks : List ℕ) (b e : ℕ) (h : e ≡ b + length (clauseAt row b)) where
@@ -204,10 +204,10 @@ module _ {row marks old new : List ℕ} {t : Tally} (r : Ready row marks old new
 abbrev pub ClausesDone : List ℕ → List ℕ → List ℕ → List ℕ → Tally → ℕ → Type 0
 ClausesDone row marks old new t b = (a : ℕ) → Starts row a → a < b → ClauseJoined row marks old new t a
 
-pub clause-done : {row marks old new new₁ new₂ : List ℕ} {t t₁ t₂ : Tally} (b p : ℕ) → Walk row b p → p < length row → getD row p 0 ≡ 0
+pub clause-done : {row marks old new new₁ new₂ : List ℕ} {t t₁ t₂ : Tally} (b p : ℕ) → Reached row b p → p < length row → getD row p 0 ≡ 0
     → Went row marks old new t new₁ t₁ × ClausesDone row marks old new₁ t₁ b → Went row marks old new₁ t₁ new₂ t₂ × ClauseJoined row marks old new₂ t₂ b
     → Went row marks old new t new₂ t₂ × ClausesDone row marks old new₂ t₂ (p + 1)
-clause-done {row} {marks} {old} {new₂ = new₂} {t₂ = t₂} b p w h z u v = (went-then (u .0) (v .0), λ a s l. go a s (walk-starts row b p w h z a s l))
+clause-done {row} {marks} {old} {new₂ = new₂} {t₂ = t₂} b p w h z u v = (went-then (u .0) (v .0), λ a s l. go a s (reached-starts row b p w h z a s l))
   where
     go : (a : ℕ) → Starts row a → (a < b) ⊎ (a ≡ b) → ClauseJoined row marks old new₂ t₂ a
     go a s (inl l) = let k = u .1 a s l in (unit-later (v .0 .later) (k .0), λ i. v .0 .later _ _ (k .1 i))

@@ -96,16 +96,6 @@ then-by marks b e q (p, l, h, three, by) =
     (λ k. after-odd _ (subst⁻¹ (λ (i : ℕ). isSelectAfter (getD marks i 0) ≡ true) (ap (λ (i : ℕ). around b (around b i)) (k .1) ∙ thrice b p l (omega (arith, three))) (k .0)))
     by
 
--- bits are added
-pub bits-low : (x y z : ℕ) → (x ≡ 0) ⊎ (x ≡ 1) → (y ≡ 0) ⊎ (y ≡ 2) → (z ≡ 0) ⊎ (z ≡ 4) → x + y + z < 8
-bits-low x y z f g h = ⊎-elim (λ a. ⊎-elim (λ b. ⊎-elim (λ c. omega arith) (λ c. omega arith) h) (λ b. ⊎-elim (λ c. omega arith) (λ c. omega arith) h) g) (λ a. ⊎-elim (λ b. ⊎-elim (λ c. omega arith) (λ c. omega arith) h) (λ b. ⊎-elim (λ c. omega arith) (λ c. omega arith) h) g) f
-
-pub bits-odd : (y z : ℕ) → (y ≡ 0) ⊎ (y ≡ 2) → (z ≡ 0) ⊎ (z ≡ 4) → (1 + y + z) % 2 ≡ 1
-bits-odd y z g h = ⊎-elim (λ b. ⊎-elim (λ c. omega arith) (λ c. omega arith) h) (λ b. ⊎-elim (λ c. omega arith) (λ c. omega arith) h) g
-
-pub bits-middle : (x z : ℕ) → (x ≡ 0) ⊎ (x ≡ 1) → (z ≡ 0) ⊎ (z ≡ 4) → (x + 2 + z) / 2 % 2 ≡ 1
-bits-middle x z f h = ⊎-elim (λ a. ⊎-elim (λ c. omega arith) (λ c. omega arith) h) (λ a. ⊎-elim (λ c. omega arith) (λ c. omega arith) h) f
-
 -- the places of a clause are listed one by one
 listed-same : (marks starts starts′ : List ℕ) (b e q : ℕ) → getD starts′ q 0 ≡ getD starts q 0 → ListedAt marks b e starts q → ListedAt marks b e starts′ q
 listed-same marks starts starts′ b e q s t =

@@ -8,6 +8,7 @@ pub mod XorSteps
 pub mod XorPass
 pub mod JoinedBy
 pub mod Going
+pub mod Walking
 pub mod Searches
 pub mod Clauses
 pub mod Starts

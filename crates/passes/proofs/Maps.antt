@@ -7,7 +7,7 @@ use native.Mathlib.Omega.{arith}
 use native.Mathlib.Decide.{ℕ-discrete}
 use native.Mathlib.Nat.{le-of-suc-le-suc, not-suc-le-zero}
 use native.Mathlib.Numerals.{add-one}
-use lib.ListN.{length, getD, set, replicate}
+use lib.ListN.{length, getD, set}
 use lib.Seq.{getD-set-same, getD-set-other}
 
 -- f at the first n elements
@@ -61,9 +61,3 @@ written-more f n l h w k q = go (ℕ-discrete k n)
     go : Dec (k ≡ n) → getD (set l n (f n)) k 0 ≡ f k
     go (yes e) = rw e (getD-set-same l n (f n) 0 h)
     go (no d) = getD-set-other l n k (f n) 0 d ∙ w k (omega arith)
-
--- a row of zeros
-pub zeros : (n h : ℕ) → _≡_ {A = ℕ} (getD (replicate n 0) h 0) 0
-zeros zero h = refl
-zeros (suc n) zero = refl
-zeros (suc n) (suc h) = zeros n h

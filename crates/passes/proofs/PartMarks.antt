@@ -66,7 +66,7 @@ module _ {row marks part partMarks : List ℕ} {b b′ : ℕ} (c : Copy row mark
     pub across-mark : getD partMarks (across b b′ p) 0 ≡ getD marks p 0
     across-mark = c .mark (p - b) (omega (arith, inside)) ∙ ap (λ (i : ℕ). getD marks i 0) back
 
-    pub across-around : length (clauseAt row b) ≡ 3 → around b′ (across b b′ p) ≡ across b b′ (around b p)
+    across-around : length (clauseAt row b) ≡ 3 → around b′ (across b b′ p) ≡ across b b′ (around b p)
     across-around three = go (ℕ-discrete p (b + 2))
       where
         go : Dec (p ≡ b + 2) → around b′ (across b b′ p) ≡ across b b′ (around b p)

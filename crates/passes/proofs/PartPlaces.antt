@@ -13,7 +13,6 @@ use Rattle.clauses.specs.Clause.{Mem}
 use Rattle.gates.specs.Sign.{flip}
 use Rattle.gates.specs.Gate.{Input}
 use Rattle.gates.specs.Found.{clauseAt, LiteralAt, around, isAnd, isSelectNext, isSelectAfter, isXor, isPair}
-use Rattle.gates.proofs.Rows.{literal-in}
 use Rattle.rules.specs.Answer.{leadOf}
 use Rattle.passes.specs.Making.{JoinedBy}
 use Rattle.passes.specs.Passing.{UnitJoined, PairJoined, ClauseJoined, AndJoined}
@@ -25,7 +24,7 @@ use Rattle.passes.specs.Parts.{Ended, Copy}
 use Rattle.passes.specs.declared.tally.Tally.{Tally}
 use Rattle.passes.proofs.XorPlaces.{others-skip, others-more}
 use Rattle.passes.proofs.Starts.{start-is}
-use Rattle.passes.proofs.PartMarks.{around-literal, copy-back, across, copy-length, copy-literal, copy-code, copy-first, across-code, across-mark, end-mark, around-code, around-around-code}
+use Rattle.passes.proofs.PartMarks.{copy-back, across, copy-length, copy-literal, copy-code, copy-first, across-code, across-mark, end-mark, around-code, around-around-code}
 
 module _ {row marks part partMarks : List ℕ} {b b′ : ℕ} (c : Copy row marks b part partMarks b′) where
   -- Rules 1 and 2
@@ -81,7 +80,7 @@ module _ {row marks part partMarks : List ℕ} {b b′ : ℕ} (c : Copy row mark
           mark = ap isAnd (across-mark c k) ∙ i;
         }
 
-    pub lead-copied : {old : List ℕ} {x : ℕ} → HasLead row old p x → HasLead part old (across b b′ p) x
+    lead-copied : {old : List ℕ} {x : ℕ} → HasLead row old p x → HasLead part old (across b b′ p) x
     lead-copied {old} h =
         let at = subst⁻¹ (λ (a : ℕ). LiteralAt row a (h .place)) (start-is row b p k) (h .at) in
         record {
@@ -148,20 +147,6 @@ Turned row marks b p l u =
 module _ {cs : List (List ℕ)} {row marks : List ℕ} {l c u : ℕ} (marked : Marked cs row marks) (s : SideAt row marks l c u) where
   three : length (clauseAt row (s .start)) ≡ 3
   three = marked .select-three (s .start) (s .place) (s .at) (⊎-map (λ m. m .0) (λ m. m .0) (s .marked))
-
-  -- the literal of the side stands in its clause
-  pub side-in : Mem u (clauseAt row (s .start))
-  side-in = go (s .marked)
-    where
-      around-in : LiteralAt row (s .start) (around (s .start) (s .place))
-      around-in = around-literal three (s .at)
-
-      there : {p : ℕ} → getD row p 0 ≡ u → LiteralAt row (s .start) p → Mem u (clauseAt row (s .start))
-      there {p} e k = subst (λ (x : ℕ). Mem x (clauseAt row (s .start))) e (literal-in row (s .start) p k)
-
-      go : Turned row marks (s .start) (s .place) l u → Mem u (clauseAt row (s .start))
-      go (inl m) = there (m .2) (around-literal three around-in)
-      go (inr m) = there (m .2) around-in
 
   pub side-copied : {part partMarks : List ℕ} {b′ : ℕ} → Copy row marks (s .start) part partMarks b′ → SideAt part partMarks l c u
   side-copied {part} {partMarks} {b′} k =

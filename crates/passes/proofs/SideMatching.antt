@@ -24,7 +24,7 @@ use Rattle.passes.specs.RowJoined.{ItesJoined}
 use Rattle.passes.specs.Joining.{joinState}
 use Rattle.passes.specs.declared.tally.Tally.{Tally}
 use Rattle.passes.specs.Sides.{sideCount, selectAt, outputAt, thenAt, Sides, ListsMarked, Pair, Alike, isAlike, isHeld, Ready, Step, BySelect, ByMates, HasLater, OneOutput, Matched, Slotted, Served, Matching, SideDone, isPair, isSame, buckets, bucketOf, pairKey, alikeKey, keyOf}
-use Rattle.passes.proofs.Maps.{zeros}
+use Rattle.gates.proofs.Fills.{zero-at}
 use Rattle.passes.proofs.Joining.{lead-constant}
 use Rattle.passes.proofs.JoinedBy.{joined-sym, joined-trans}
 use Rattle.passes.proofs.SidePairs.{ite-pair, gate-marked, is-pair, pair-is, is-alike, alike-is}
@@ -126,7 +126,7 @@ pub slotted-none : (sides old slots : List ℕ) → slots ≡ replicate (2 * max
 slotted-none sides old slots e =
     record {
       size = ap length e ∙ length-replicate {A = ℕ} (2 * maxNets + 2) 0;
-      held = λ s k h. absurd (omega (arith, sym (zeros (2 * maxNets + 2) s) ∙ ap (λ (l : List ℕ). getD l s 0) (sym e) ∙ h));
+      held = λ s k h. absurd (omega (arith, sym (zero-at (2 * maxNets + 2) s) ∙ ap (λ (l : List ℕ). getD l s 0) (sym e) ∙ h));
     }
 
 -- the entry of a slot is 0 or a side, counted from 1
@@ -160,7 +160,7 @@ module _ (sides old : List ℕ) where
       }
 
   -- all ITEs whose first side is like i have been matched
-  pub all-matched : {slots row : List ℕ} {t : Tally} (i : ℕ) → ((k : ℕ) → Alike sides old i k → (j : ℕ) → Pair sides k j → Served sides old slots row t k j)
+  all-matched : {slots row : List ℕ} {t : Tally} (i : ℕ) → ((k : ℕ) → Alike sides old i k → (j : ℕ) → Pair sides k j → Served sides old slots row t k j)
       → Matched sides old row t i
   all-matched {slots} {row} {t} i h =
       record { outputs = λ k j m n a b p q e. outputs k j m n e (h k a j p) (h m b n q) }
@@ -172,11 +172,11 @@ module _ (sides old : List ℕ) where
           joined-trans row t (outputAt sides k) (outputAt sides (u .holder)) (outputAt sides m) (u .joined)
           (joined-sym row t (outputAt sides m) (outputAt sides (u .holder)) (rw f (v .joined)))
 
-  pub matched-on : {row row′ : List ℕ} {t t′ : Tally} {i : ℕ} → Step sides old row t row′ t′ → Matched sides old row t i → Matched sides old row′ t′ i
+  matched-on : {row row′ : List ℕ} {t t′ : Tally} {i : ℕ} → Step sides old row t row′ t′ → Matched sides old row t i → Matched sides old row′ t′ i
   matched-on s m =
       record { outputs = λ k j l n a b p q e. s .later _ _ (m .outputs k j l n a b p q e) }
 
-  pub matched-alike : {row : List ℕ} {t : Tally} {i k : ℕ} → Alike sides old i k → Matched sides old row t k → Matched sides old row t i
+  matched-alike : {row : List ℕ} {t : Tally} {i k : ℕ} → Alike sides old i k → Matched sides old row t k → Matched sides old row t i
   matched-alike a m =
       record {
         outputs = λ k j l n b d p q e.
@@ -243,7 +243,7 @@ module _ (sides old : List ℕ) (k j : ℕ) where
   unfolding isSame
   is-same l h e = let b = and-both (isPair sides k j) _ e in (is-pair sides k j l h (b .0), eqb-true _ _ (b .1))
 
-  pub not-same-pair : isSame sides old k j ≡ false → Pair sides k j → ¬ Kernel old (thenAt sides k) (thenAt sides j)
+  not-same-pair : isSame sides old k j ≡ false → Pair sides k j → ¬ Kernel old (thenAt sides k) (thenAt sides j)
   not-same-pair h p e = true≢false (sym (eq-eqb _ _ e) ∙ pair-same (pair-is sides k j p) ∙ h)
 
 -- Keys

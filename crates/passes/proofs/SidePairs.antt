@@ -20,7 +20,7 @@ use Rattle.passes.specs.Sides.{sideCount, selectAt, outputAt, thenAt, Si
 use Rattle.passes.specs.RowJoined.{SideAt, IteAt}
 
 -- Two sides of one output, with inverse selects and t and e of different nets, are an ITE.
-pub sides-gate : {cs : List (List ℕ)} {l c d t e : ℕ} → Side cs l c t → Side cs l d e → d ≡ negate c → net e ≢ net t → IteGate cs l c t e
+sides-gate : {cs : List (List ℕ)} {l c d t e : ℕ} → Side cs l c t → Side cs l d e → d ≡ negate c → net e ≢ net t → IteGate cs l c t e
 sides-gate {cs} {l} {c} {d} {t} {e} (a, g) (b, h) q n =
     record {
       apart = four-apart (record { cl = f .cl; tl = f .tl; tc = f .tc; el = k .tl; ec = λ z. k .tc (omega arith); et = n });

@@ -13,11 +13,11 @@ use lib.ListN.{length, getD, set, take, length-set, length-take}
 use lib.Seq.{getD-set-same, getD-set-other, getD-take}
 use Rattle.clauses.specs.Code.{negate}
 use Rattle.clauses.proofs.Codes.{negate-negate}
-use Rattle.gates.specs.Found.{LiteralAt, clauseAt, around, isSelectNext, isSelectAfter}
-use Rattle.gates.proofs.Rows.{literal-some, clause-ended, starts-first, starts-next, starts-apart}
+use Rattle.gates.specs.Found.{LiteralAt, around, isSelectNext, isSelectAfter}
+use Rattle.gates.proofs.Rows.{literal-some, starts-apart}
 use Rattle.passes.specs.Marked.{Marked}
 use Rattle.passes.specs.Parts.{Ended}
-use Rattle.passes.specs.Sides.{sideCount, selectAt, outputAt, thenAt, Side, Listed, AreSides, Sides, ListsMarked, At, ListedAt, More, put}
+use Rattle.passes.specs.Sides.{sideCount, selectAt, outputAt, thenAt, Side, Listed, AreSides, Sides, ListsMarked, ListedAt, More, put}
 
 module _ (sides : List ℕ) (n c l t : ℕ) where
   put-before : (i : ℕ) → i < 3 * n → getD (put sides n c l t) i 0 ≡ getD sides i 0
@@ -119,34 +119,6 @@ module _ (sides : List ℕ) (n : ℕ) (room : 3 * n ≤ length sides) where
           → Listed sides n l c t
       go (inl (m, y, z)) = same _ _ _ (s .select) y z (listed (s .place) .next (s .start) (s .at) m)
       go (inr (m, y, z)) = same _ _ _ (s .select) y z (listed (s .place) .after (s .start) (s .at) m)
-
--- The walk over the places of the row of codes
-
-module _ (row : List ℕ) where
-  pub at-first : At row 0 0
-  at-first = record { low = omega arith; start = starts-first row; high = omega arith }
-
-  module _ {b p : ℕ} (a : At row b p) (inside : p < length row) where
-    -- a literal
-    pub at-literal : getD row p 0 ≢ 0 → LiteralAt row b p
-    at-literal n = record { start = a .start (omega (arith, a .low)); low = a .low; high = go (ℕ-discrete p (b + length (clauseAt row b))) }
-      where
-        go : Dec (p ≡ b + length (clauseAt row b)) → p < b + length (clauseAt row b)
-        go (yes e) = absurd (n (ap (λ (i : ℕ). getD row i 0) e ∙ clause-ended row b))
-        go (no m) = omega (arith, a .high)
-
-    pub at-next : getD row p 0 ≢ 0 → At row b (p + 1)
-    at-next n = let l = at-literal n in record { low = omega (arith, a .low); start = a .start; high = omega (arith, l .high) }
-
-    -- the 0
-    pub at-end : getD row p 0 ≡ 0 → At row (p + 1) (p + 1)
-    at-end e =
-        let h : p ≡ b + length (clauseAt row b) = go (decLt p (b + length (clauseAt row b))) in
-        record { low = omega arith; start = λ l. rw h (starts-next row b (rw h at l)); high = omega arith }
-      where
-        go : Dec (p < b + length (clauseAt row b)) → p ≡ b + length (clauseAt row b)
-        go (yes l) = absurd (literal-some row b p (a .low) l e)
-        go (no n) = omega (arith, a .high)
 
 -- a place is of one clause only
 literal-only : (row : List ℕ) (b d p : ℕ) → LiteralAt row b p → LiteralAt row d p → d ≡ b

@@ -11,7 +11,7 @@ use borrow.Author.Tests.{eq-eqb, ne-eqb}
 use Rattle.gates.specs.Found.{LiteralAt}
 use Rattle.gates.specs.Mark.{startOf}
 use Rattle.gates.proofs.StartOf.{start-only}
-use Rattle.gates.proofs.Walking.{literal-inside}
+use Rattle.passes.proofs.Walking.{literal-inside}
 
 pub start-zero : (row : List ℕ) (p : ℕ) → getD row p 0 ≡ 0 → startOf row (p + 1) ≡ p + 1
 unfolding startOf

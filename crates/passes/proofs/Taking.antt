@@ -12,10 +12,9 @@ use lib.ListN.{length, getD, set, length-set, List·getD-eq-default}
 use lib.Seq.{getD-set-same, getD-set-other}
 use borrow.Author.Tests.{eq-eqb, ne-eqb, lt-ltb, le-ltb}
 use Rattle.clauses.specs.Code.{net}
-use Rattle.clauses.proofs.Lists.{and-both, not-eqb}
 use Rattle.gates.specs.Sign.{flip, isInverse}
 use Rattle.gates.specs.Found.{clauseAt, LiteralAt}
-use Rattle.gates.proofs.Walking.{literal-inside}
+use Rattle.passes.proofs.Walking.{literal-inside}
 use Rattle.gates.proofs.Signs.{net-flip}
 use Rattle.rules.specs.Answer.{leadOf}
 use Rattle.passes.specs.Passing.{leadAt, First}
@@ -30,13 +29,13 @@ use Rattle.passes.proofs.Indexing.{listed-start, listed-tie, listed-the
 -- A row of marks that is written
 
 module _ (marked : List ℕ) (w v : ℕ) where
-  pub mark-here : w < length marked → v ≢ 0 → HasMark (set marked w v) w
+  mark-here : w < length marked → v ≢ 0 → HasMark (set marked w v) w
   mark-here h n e = n (sym (getD-set-same marked w v 0 h) ∙ e)
 
   mark-other : (x : ℕ) → x ≢ w → HasMark marked x → HasMark (set marked w v) x
   mark-other x n h e = h (sym (getD-set-other marked w x v 0 n) ∙ e)
 
-  pub mark-keeps : v ≢ 0 → Keeps marked (set marked w v)
+  mark-keeps : v ≢ 0 → Keeps marked (set marked w v)
   mark-keeps n x h = go (ℕ-discrete x w) (decLt w (length marked))
     where
       go : Dec (x ≡ w) → Dec (w < length marked) → HasMark (set marked w v) x
@@ -143,10 +142,6 @@ module _ (touched : List ℕ) (skip n : ℕ) where
   pub touched-rest : n ≢ 0 → n ≢ skip → not (eqb (getD touched n 0) 0) ≡ isTouched touched skip n
   unfolding isTouched
   touched-rest m k = rw (ne-eqb n 0 m, ne-eqb n skip k)
-
-  pub touched-is : isTouched touched skip n ≡ true → (n ≢ 0) × (n ≢ skip) × HasMark touched n
-  unfolding isTouched
-  touched-is h = let p = and-both _ _ h in let r = and-both _ _ (p .1) in (not-eqb n 0 (p .0), not-eqb n skip (r .0), not-eqb (getD touched n 0) 0 (r .1))
 
   pub is-touched : n ≢ 0 → n ≢ skip → HasMark touched n → isTouched touched skip n ≡ true
   is-touched m k h = sym (touched-rest m k) ∙ ap not (ne-eqb (getD touched n 0) 0 h)

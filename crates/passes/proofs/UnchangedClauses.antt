@@ -130,7 +130,7 @@ module _ (older old : List ℕ) where
   pub kernel-before : (x y : ℕ) → Kept older old x → Kept older old y → Kernel old x y → Kernel older x y
   kernel-before x y e f k = e ∙ k ∙ sym f
 
-  pub kept-false : Kept older old 0
+  kept-false : Kept older old 0
   kept-false = lead-false older ∙ sym (lead-false old)
 
   pub kept-true : Kept older old 1
@@ -139,7 +139,7 @@ module _ (older old : List ℕ) where
   kept-inverse : (x : ℕ) → Kept older old x → Kept older old (negate x)
   kept-inverse x e = lead-negate older x ∙ ap negate e ∙ sym (lead-negate old x)
 
-  pub kept-negate : (x : ℕ) → Kept older old (negate x) → Kept older old x
+  kept-negate : (x : ℕ) → Kept older old (negate x) → Kept older old x
   kept-negate x e = subst (Kept older old) (negate-negate x) (kept-inverse (negate x) e)
 
 -- the other literals of an XOR's clause are of the clause

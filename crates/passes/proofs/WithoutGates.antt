@@ -12,7 +12,7 @@ use lib.ListN.{length, getD, List·getD-eq-default}
 use borrow.Author.Tests.{eq-eqb, ne-eqb, eqb-true}
 use Rattle.gates.specs.Found.{clauseAt, LiteralAt, isAnd, isXor}
 use Rattle.gates.proofs.Rows.{literal-some, clause-ended}
-use Rattle.gates.proofs.Walking.{literal-inside}
+use Rattle.passes.proofs.Walking.{literal-inside}
 use Rattle.gates.specs.Mark.{startOf}
 use Rattle.passes.specs.Making.{JoinedBy}
 use Rattle.passes.specs.Passing.{AndJoined}

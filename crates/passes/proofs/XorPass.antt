@@ -1,12 +1,12 @@
 -- A pass over the XORs: every literal of every XOR is taken, and then all conclusions of rules 5 and 6 are joined.
 -- Assumes nothing.
 use mathlib.Core.Path.{_≡_, refl, sym, _∙_, ap, subst, subst⁻¹, subst₂}
-use mathlib.Core.Logic.{_≢_, _⊎_, inl, inr}
+use mathlib.Core.Logic.{_≢_}
 use mathlib.Core.Bool.{not}
 use mathlib.Core.List.{List}
 use Prim.Native.Nat.{ℕ, _+_, _-_, _*_, _≤_, _<_}
 use native.Mathlib.Omega.{arith}
-use native.Mathlib.Decide.{ℕ-discrete, decLt}
+use native.Mathlib.Decide.{decLt}
 use borrow.Author.Tests.{eq-eqb, eqb-true}
 use lib.Dec.{eqb}
 use lib.ListN.{length, getD, replicate, length-replicate}
@@ -15,6 +15,7 @@ use Rattle.gates.specs.Found.{clauseAt, Starts, LiteralAt, isXor}
 use Rattle.gates.specs.Sign.{flip}
 use Rattle.rules.specs.Answer.{leadOf}
 use Rattle.passes.specs.Making.{Making, JoinedBy}
+use Rattle.passes.specs.Passing.{Reached}
 use Rattle.passes.specs.Marked.{Marked, Ready, Went}
 use Rattle.passes.specs.RowJoined.{XorsJoined}
 use Rattle.passes.specs.Parts.{Ended}
@@ -22,9 +23,10 @@ use Rattle.passes.specs.Xors.{oddNets, oddSign, packed, others, restOf, 
 use Rattle.passes.specs.XorMatching.{XorsOf, Board, Room, Stepped, restAlong, sumAlong, Matched}
 use Rattle.passes.specs.declared.tally.Tally.{Tally}
 use Rattle.passes.specs.declared.xors.Pass.{Pass}
+use Rattle.passes.proofs.Walking.{reached-first, reached-on, reached-end, reached-behind, reached-done}
 use Rattle.passes.proofs.JoinedBy.{joined-sym, joined-trans}
 use Rattle.passes.proofs.Tables.{empty-table}
-use Rattle.passes.proofs.XorPlaces.{clause-length, clause-end, literal-nonzero, one-start}
+use Rattle.passes.proofs.XorPlaces.{literal-nonzero, one-start}
 use Rattle.passes.proofs.XorSteps.{xor-packable, Taken, taken, literal-room}
 
 module _ {row : List ℕ} {b n : ℕ} (s : Starts row b) (e : n ≡ length (clauseAt row b)) where
@@ -194,12 +196,9 @@ module _ {row marks old : List ℕ} (m : Board) (p : Pass) (ready : Ready row ma
         d : Taken (ready .of) row marks old at m′ p′ m″ p″
         d = taken-for (xors-here ready) making-here
 
--- the clauses below place b have been passed, and no clause ends from there to place q
+-- the clauses below place b have been passed, and place q is reached
 pub record Passing (row marks old : List ℕ) (m₀ : Board) (t : Tally) (b q : ℕ) (m : Board) (p : Pass) : Type 0 where
-  pub low : b ≤ q
-  pub high : q ≤ length row
-  pub behind : (b ≡ 0) ⊎ (getD row (b - 1) 0 ≡ 0)
-  pub none : (i : ℕ) → b + i < q → getD row (b + i) 0 ≢ 0
+  pub reached : Reached row b q
   pub matched : Matched row marks old b m p
   pub went : Went row marks old (m₀ .leads) t (m .leads) (p .tally)
   pub kept : Kept m₀ m
@@ -210,10 +209,7 @@ module _ {row marks old : List ℕ} {m₀ : Board} {t : Tally} where
       → Passing row marks old m₀ t 0 0 m₀ (record { tally = t; count = 0 })
   passing-begins n some e u v w =
       record {
-        low = omega arith;
-        high = omega arith;
-        behind = inl refl;
-        none = λ i l. absurd (omega arith);
+        reached = reached-first row;
         matched = pass-begins (m₀ .leads) (m₀ .keys) (m₀ .sums) (m₀ .next) (m₀ .heads) t n some e u v w;
         went = record { making = λ cs d f g. g; later = λ a b j. j };
         kept = record { leads = refl; keys = refl; sums = refl; next = refl; heads = refl };
@@ -223,55 +219,28 @@ module _ {row marks old : List ℕ} {m₀ : Board} {t : Tally} where
     module _ (more : q < length row) where
       -- no clause ends here
       pub passing-on : getD row q 0 ≢ 0 → Passing row marks old m₀ t b (q + 1) m p
-      passing-on n =
-          record {
-            low = omega (arith, k .low);
-            high = omega arith;
-            behind = k .behind;
-            none = λ i l. go i (ℕ-discrete (b + i) q) l;
-            matched = k .matched;
-            went = k .went;
-            kept = k .kept;
-          }
-        where
-          go : (i : ℕ) → Dec (b + i ≡ q) → b + i < q + 1 → getD row (b + i) 0 ≢ 0
-          go i (yes e) l = subst⁻¹ (λ (j : ℕ). getD row j 0 ≢ 0) e n
-          go i (no e) l = k .none i (omega arith)
+      passing-on n = record { reached = reached-on row b q (k .reached) more n; matched = k .matched; went = k .went; kept = k .kept }
 
       pub passing-starts : Starts row b
-      passing-starts = record { inside = omega (arith, k .low); behind = k .behind }
+      passing-starts = k .reached .start (omega (arith, k .reached .low))
 
       place : b + (q - b) ≡ q
-      place = omega (arith, k .low)
+      place = omega (arith, k .reached .low)
 
       pub passing-length : getD row q 0 ≡ 0 → q - b ≡ length (clauseAt row b)
-      passing-length e =
-          sym (clause-length (q - b) row b (omega (arith, k .low)) (λ i l. k .none i (omega (arith, k .low))) (ap (λ (i : ℕ). getD row i 0) place ∙ e))
+      passing-length e = omega (arith, reached-end row b q (k .reached) more e)
 
       -- a clause ends here, and has been taken
       pub passing-clause : getD row q 0 ≡ 0 → {m′ : Board} {p′ : Pass} → Matched row marks old (b + (q - b)) m′ p′
           → Went row marks old (m .leads) (p .tally) (m′ .leads) (p′ .tally) → Kept m m′ → Passing row marks old m₀ t (q + 1) (q + 1) m′ p′
       passing-clause e {m′} {p′} h l s =
           record {
-            low = omega arith;
-            high = omega arith;
-            behind = inr (ap (λ (i : ℕ). getD row i 0) back ∙ e);
-            none = λ i u. absurd (omega arith);
+            reached = reached-behind row b q (k .reached) more e;
             matched = end-passed e (subst (λ (i : ℕ). Matched row marks old i m′ p′) place h);
             went = record { making = λ cs u v g. l .making cs u v (k .went .making cs u v g); later = λ u v j. l .later u v (k .went .later u v j) };
             kept = kept-on (k .kept) s;
           }
-        where
-          back : q + 1 - 1 ≡ q
-          back = omega arith
 
     -- every row of clauses ends with a 0
     pub passing-ends : Ended row → length row ≤ q → Matched row marks old (length row) m p
-    passing-ends ended h = subst (λ (i : ℕ). Matched row marks old i m p) (go (decLt b (length row))) (k .matched)
-      where
-        go : Dec (b < length row) → b ≡ length row
-        go (no n) = omega (arith, k .low, k .high)
-        go (yes l) = absurd (k .none (length (clauseAt row b)) (omega (arith, inside)) (clause-end (length (clauseAt row b)) row b refl inside))
-          where
-            inside : b + length (clauseAt row b) < length row
-            inside = ended b (record { inside = l; behind = k .behind })
+    passing-ends ended h = subst (λ (i : ℕ). Matched row marks old i m p) (reached-done row b q (k .reached) h ended) (k .matched)

@@ -58,7 +58,7 @@ one-start {row} {b} {c} {p} l m = go (ℕ-discrete b c) (decLt b c)
     go (no n) (no h) = absurd (inside c b m l (omega arith))
 
 -- a clause ends at the first 0
-pub clause-length : (n : ℕ) (row : List ℕ) (b : ℕ) → b + n < length row → ((i : ℕ) → i < n → getD row (b + i) 0 ≢ 0) → getD row (b + n) 0 ≡ 0
+clause-length : (n : ℕ) (row : List ℕ) (b : ℕ) → b + n < length row → ((i : ℕ) → i < n → getD row (b + i) 0 ≢ 0) → getD row (b + n) 0 ≡ 0
     → length (clauseAt row b) ≡ n
 unfolding clauseAt
 clause-length zero row b h none e =

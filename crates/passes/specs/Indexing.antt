@@ -40,7 +40,7 @@ Thens marks b e q =
     (p : ℕ) × (b ≤ p) × (p < e) × (e ≡ b + 3)
     × (((isSelectNext (getD marks p 0) ≡ true) × (q ≡ around b (around b p))) ⊎ ((isSelectAfter (getD marks p 0) ≡ true) × (q ≡ around b p)))
 
--- .. is listed
+-- its place q is listed
 pub record ListedAt (marks : List ℕ) (b e : ℕ) (starts : List ℕ) (q : ℕ) : Type 0 where
   pub start : startAt starts q ≡ b
   pub tied : Ties marks b e q → getD starts q 0 % 2 ≡ 1

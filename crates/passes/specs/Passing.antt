@@ -11,7 +11,7 @@ use lib.ListN.{length, getD}
 use Rattle.clauses.specs.Code.{negate}
 use Rattle.clauses.specs.Clause.{Mem}
 use Rattle.gates.specs.Gate.{Input}
-use Rattle.gates.specs.Found.{clauseAt, isPair}
+use Rattle.gates.specs.Found.{clauseAt, isPair, Starts}
 use Rattle.rules.specs.Answer.{leadOf}
 use Rattle.passes.specs.Making.{Kernel, JoinedBy}
 use Rattle.passes.specs.declared.tally.Tally.{Tally}
@@ -38,6 +38,13 @@ pub record First (f : ℕ → Bool) (from to r : ℕ) : Type 0 where
   pub high : r ≤ to
   pub before : (q : ℕ) → from ≤ q → q < r → f q ≡ false
   pub here : r < to → f r ≡ true
+
+-- a walk over the row has reached place p: one of the clause that starts at b, or its ending; or both are the row's end
+pub record Reached (row : List ℕ) (b p : ℕ) : Type 0 where
+  pub start : b < length row → Starts row b
+  pub inside : b ≤ length row
+  pub low : b ≤ p
+  pub high : p ≤ b + length (clauseAt row b)
 
 -- rule 1 has joined what it draws from the clause that starts at b
 pub record UnitJoined (row old new : List ℕ) (t : Tally) (b : ℕ) : Type 0 where

@@ -11,7 +11,7 @@ use Rattle.clauses.specs.Limit.{maxNets, maxEntries}
 use Rattle.clauses.specs.Code.{negate, net}
 use Rattle.clauses.specs.Listing.{Fits}
 use Rattle.gates.specs.Gate.{IteGate}
-use Rattle.gates.specs.Found.{clauseAt, Starts, LiteralAt, around, isSelectNext, isSelectAfter}
+use Rattle.gates.specs.Found.{LiteralAt, around, isSelectNext, isSelectAfter}
 use Rattle.rules.specs.Answer.{leadOf}
 use Rattle.passes.specs.Making.{Kernel, Making, JoinedBy, Later}
 use Rattle.passes.specs.RowJoined.{SideAt}
@@ -64,12 +64,6 @@ ListsMarked row marks sides = (l c t : ℕ) → SideAt row marks l c t → Liste
 -- the row with one side more behind the first n
 abbrev pub put : List ℕ → ℕ → ℕ → ℕ → ℕ → List ℕ
 put sides n c l t = set (set (set sides (3 * n) c) (3 * n + 1) l) (3 * n + 2) t
-
--- p is a place of the clause at b, or that of its 0
-pub record At (row : List ℕ) (b p : ℕ) : Type 0 where
-  pub low : b ≤ p
-  pub start : b < length row → Starts row b
-  pub high : p ≤ b + length (clauseAt row b)
 
 -- the sides of the marks at place p are listed
 pub record ListedAt (row marks sides : List ℕ) (n p : ℕ) : Type 0 where

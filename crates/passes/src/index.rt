@@ -76,7 +76,8 @@ fn is_then(marks: &[u8], b: usize, e: usize, q: usize) -> bool
 
 // The bit, if it is set.
 fn bit_if(set: bool, bit: u32) -> u32
-    ensures { λ r. ⌜ ((r ≡ 0) ⊎ (r ≡ bit)) × (set ≡ true → r ≡ bit) ⌝ }
+    ensures { λ r. ⌜ ((k : ℕ) × (k ≤ 1) × (r ≡ k * bit)) ⌝ }
+    ensures { λ r. ⌜ (set ≡ true → r ≡ bit) ⌝ }
 {
     if set {
         return bit;

@@ -8,8 +8,9 @@ ghost use lib.ListN.{length};
 ghost use Rattle.clauses.specs.Limit.{maxEntries};
 ghost use Rattle.clauses.specs.Code.{negate};
 ghost use Rattle.gates.specs.Found.{around};
+ghost use Rattle.passes.specs.Passing.{Reached};
 ghost use Rattle.passes.specs.Marked.{Marked, MarkedOfSome};
-ghost use Rattle.passes.specs.Sides.{maxSides, sideCount, selectAt, outputAt, thenAt, AreSides, At, ListedAt, More, put};
+ghost use Rattle.passes.specs.Sides.{maxSides, sideCount, selectAt, outputAt, thenAt, AreSides, ListedAt, More, put};
 use crate::sign::flipped;
 
 // The place after p in the clause of three literals at b, the first one coming after the last.
@@ -49,7 +50,7 @@ fn put_marked(marked: bool, sides: &mut [u32], n: usize, x: u32, y: u32, z: u32)
 // Lists the sides of the marks at place p of the clause at b, and answers how many there are now.
 fn put_sides(codes: &[u32], marks: &[u8], b: usize, p: usize, sides: &mut [u32], n: usize) -> usize
     requires { ⌜ MarkedOfSome (now codes) (now marks) ⌝ }
-    requires { ⌜ At (now codes) b p × (p < length (now codes)) ⌝ }
+    requires { ⌜ Reached (now codes) b p × (p < length (now codes)) ⌝ }
     requires { ⌜ (length (now codes) ≤ maxEntries) × (3 * n + 6 ≤ length (now sides)) ⌝ }
     ensures { λ r. ⌜ ((cs : List (List ℕ)) → Marked cs (now (codes .entry)) (now (marks .entry)) → AreSides cs (now (sides .entry)) n → AreSides cs (now (sides .exit)) r) ⌝ }
     ensures { λ r. ⌜ More (now (sides .entry)) n (now (sides .exit)) r ⌝ }
@@ -73,8 +74,8 @@ fn put_sides(codes: &[u32], marks: &[u8], b: usize, p: usize, sides: &mut [u32],
 
 // Where the clause of the place after p starts; b is where that of p does.
 fn next_start(codes: &[u32], b: usize, p: usize) -> usize
-    requires { ⌜ At (now codes) b p × (p < length (now codes)) ⌝ }
-    ensures { λ r. ⌜ At (now (codes .entry)) r (p + 1) ⌝ }
+    requires { ⌜ Reached (now codes) b p × (p < length (now codes)) ⌝ }
+    ensures { λ r. ⌜ Reached (now (codes .entry)) r (p + 1) ⌝ }
 {
     if codes[p] == 0 {
         return p + 1;

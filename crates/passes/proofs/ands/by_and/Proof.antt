@@ -2,7 +2,7 @@
 -- Assumes nothing.
 use native.Mathlib.Omega.{arith}
 use denote.Ref.{now}
-use Rattle.gates.proofs.Walking.{literal-inside}
+use Rattle.passes.proofs.Walking.{literal-inside}
 use Rattle.passes.specs.Passing.{Clash}
 use Rattle.passes.proofs.Going.{ready-joins}
 use Rattle.passes.proofs.Holding.{ready-low}

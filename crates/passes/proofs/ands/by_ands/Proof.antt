@@ -7,7 +7,7 @@ use mathlib.Core.Logic.{⊎-elim}
 use lib.ListN.{length}
 use native.Mathlib.Omega.{arith}
 use denote.Ref.{now}
-use Rattle.gates.proofs.Walking.{literal-inside}
+use Rattle.passes.proofs.Walking.{literal-inside}
 use Rattle.passes.specs.Holding.{Blank}
 use Rattle.passes.specs.Marked.{Went}
 use Rattle.passes.proofs.AndOutputs.{AndsDone, and-done, is-and, not-and}

@@ -3,7 +3,6 @@
 use native.Mathlib.Omega.{arith}
 use lib.ListN.{getD}
 use borrow.Author.Tests.{lt-ltb}
-use Rattle.passes.proofs.Indexing.{bits-low, bits-odd, bits-middle}
 use borrow.Author.Needs.{needs}
 use Rattle.passes.proofs.index.tie_of.Statement.{statement}
 use Rattle.passes.proofs.index.tie_of.Tie as tie
@@ -28,20 +27,20 @@ bit-if-requires-3 c κs = search needs
 
 add-result : tie.Need-add-result
 add-result c =
-    omega (arith, bits-low _ _ _ (c .before .before .before .before .bit-if .ensures .0) (c .before .before .bit-if2 .ensures .0) (c .bit-if3 .ensures .0))
+    omega (arith, c .before .before .before .before .bit-if .ensures .0, c .before .before .bit-if2 .ensures .0, c .bit-if3 .ensures .0)
 
 add-result-2 : tie.Need-add-result-2
 add-result-2 c =
-    omega (arith, bits-low _ _ _ (c .before .before .before .before .bit-if .ensures .0) (c .before .before .bit-if2 .ensures .0) (c .bit-if3 .ensures .0))
+    omega (arith, c .before .before .before .before .bit-if .ensures .0, c .before .before .bit-if2 .ensures .0, c .bit-if3 .ensures .0)
 
 returns : tie.Need-returns
 returns c =
     let x = c .before .before .before .before .bit-if .ensures in
     let y = c .before .before .bit-if2 .ensures in
     let z = c .bit-if3 .ensures in (
-      bits-low _ _ _ (x .0) (y .0) (z .0),
-      λ f t. rw (x .1 (c .before .before .before .before .before .is-tied .ensures (c .before .before .before .before .before .before .before .args .b) f t)) (bits-odd _ _ (y .0) (z .0)),
-      λ h. rw (y .1 (lt-ltb 1 (getD (c .before .before .before .before .before .before .before .args .marks .now) (c .before .before .before .before .before .before .before .args .q) 0) (omega arith))) (bits-middle _ _ (x .0) (z .0)),
+      omega (arith, x .0, y .0, z .0),
+      λ f t. omega (arith, x .1 (c .before .before .before .before .before .is-tied .ensures (c .before .before .before .before .before .before .before .args .b) f t), y .0, z .0),
+      λ h. omega (arith, x .0, y .1 (lt-ltb 1 (getD (c .before .before .before .before .before .before .before .args .marks .now) (c .before .before .before .before .before .before .before .args .q) 0) (omega arith)), z .0),
       λ t. omega (arith, z .1 (c .before .is-then .ensures t)),
     )
 

@@ -11,7 +11,7 @@ use borrow.Author.Needs.{needs}
 use Rattle.passes.proofs.Going.{went-none, went-then, ready-on}
 use Rattle.passes.proofs.WithoutGates.{none-ands, none-and-pairs}
 use Rattle.passes.proofs.RowsJoined.{ands-later}
-use Rattle.passes.proofs.Maps.{zeros}
+use Rattle.gates.proofs.Fills.{zero-at}
 use Rattle.passes.proofs.row.by_and_gates.Statement.{statement}
 use Rattle.passes.proofs.row.by_and_gates.Tie as tie
 
@@ -30,7 +30,7 @@ clear-requires c κs = search needs
 by-ands-requires : tie.Need-by-ands-requires
 by-ands-requires c κs =
     let s = c .before .before .before .before .before .before .before .before .before .before .before .before .before .before .before .pre in
-    (s .0, (λ x. subst⁻¹ (λ (l : List ℕ). getD l x 0 ≡ 0) (c .before .before .before .before .clear .ensures) (zeros (length (now (c .before .before .before .before .before .before .before .before .before .before .before .before .before .before .before .args .held))) x), omega (arith, c .before .before .before .before .clear .kept .0, s .1 .2)))
+    (s .0, (λ x. subst⁻¹ (λ (l : List ℕ). getD l x 0 ≡ 0) (c .before .before .before .before .clear .ensures) (zero-at (length (now (c .before .before .before .before .before .before .before .before .before .before .before .before .before .before .before .args .held))) x), omega (arith, c .before .before .before .before .clear .kept .0, s .1 .2)))
 
 by-and-pairs-requires : tie.Need-by-and-pairs-requires
 by-and-pairs-requires c κs =

@@ -6,20 +6,22 @@ use Prim.Native.Nat.{ℕ, _*_, _-_, _≤_, _<_}
 use native.Mathlib.Omega.{arith}
 use lib.ListN.{length}
 use denote.Ref.{now}
+use Rattle.passes.specs.Passing.{Reached}
 use Rattle.passes.specs.Marked.{Marked}
-use Rattle.passes.specs.Sides.{AreSides, At, ListedAt}
-use Rattle.passes.proofs.SideRows.{at-first, listed-more, listed-all}
+use Rattle.passes.specs.Sides.{AreSides, ListedAt}
+use Rattle.passes.proofs.Walking.{reached-first}
+use Rattle.passes.proofs.SideRows.{listed-more, listed-all}
 use Rattle.passes.proofs.sides.list_sides.Statement.{statement}
 use Rattle.passes.proofs.sides.list_sides.Tie as tie
 
 abbrev Inv-loop : tie.InvT-loop
-Inv-loop codes marks sides₀ n₀ b₀ p₀ sides n b p = (length sides ≡ length sides₀) × (n ≤ 2 * p) × (p ≤ length codes) × At codes b p × ((cs : List (List ℕ)) → Marked cs codes marks → AreSides cs sides n) × ((q : ℕ) → q < p → ListedAt codes marks sides n q)
+Inv-loop codes marks sides₀ n₀ b₀ p₀ sides n b p = (length sides ≡ length sides₀) × (n ≤ 2 * p) × (p ≤ length codes) × Reached codes b p × ((cs : List (List ℕ)) → Marked cs codes marks → AreSides cs sides n) × ((q : ℕ) → q < p → ListedAt codes marks sides n q)
 
 abbrev μ-loop : tie.MeasureT-loop
 μ-loop codes marks sides₀ n₀ b₀ p₀ sides n b p = length codes - p
 
 loop-holds : tie.Need-loop-holds Inv-loop μ-loop
-loop-holds c = (refl, omega arith, omega arith, at-first (now (c .before .before .before .args .codes)), (λ cs m i h. absurd (omega arith)), λ q h. absurd (omega arith))
+loop-holds c = (refl, omega arith, omega arith, reached-first (now (c .before .before .before .args .codes)), (λ cs m i h. absurd (omega arith)), λ q h. absurd (omega arith))
 
 put-sides-requires : tie.Need-put-sides-requires Inv-loop μ-loop
 put-sides-requires c κs = (c .before .before .before .before .before .before .pre .0, ((c .before .before .loop .inv .3, c .before .loop-test .taken), (c .before .before .before .before .before .before .pre .1 .0, omega (arith, c .before .before .loop .inv .0, c .before .before .loop .inv .1, c .before .loop-test .taken, c .before .before .before .before .before .before .pre .1))))

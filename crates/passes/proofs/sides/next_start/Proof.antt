@@ -2,7 +2,7 @@
 -- Assumes nothing.
 use borrow.Author.Needs.{needs}
 use denote.Ref.{now}
-use Rattle.passes.proofs.SideRows.{at-next, at-end}
+use Rattle.passes.proofs.Walking.{reached-on, reached-behind}
 use Rattle.passes.proofs.sides.next_start.Statement.{statement}
 use Rattle.passes.proofs.sides.next_start.Tie as tie
 
@@ -16,10 +16,10 @@ add-result : tie.Need-add-result
 add-result c = search needs
 
 returns : tie.Need-returns
-returns c = at-end (now (c .before .before .args .codes)) (c .before .before .pre .0) (c .before .before .pre .1) (c .if1 .taken)
+returns c = reached-behind (now (c .before .before .args .codes)) _ _ (c .before .before .pre .0) (c .before .before .pre .1) (c .if1 .taken)
 
 returns-2 : tie.Need-returns-2
-returns-2 c = at-next (now (c .before .before .args .codes)) (c .before .before .pre .0) (c .before .before .pre .1) (c .if1 .left)
+returns-2 c = reached-on (now (c .before .before .args .codes)) _ _ (c .before .before .pre .0) (c .before .before .pre .1) (c .if1 .left)
 
 pub next-start-spec : {M : Type 1} → statement M
 next-start-spec = tie.close (tie.spec mul-if1 shared-slice-read-if1 add-result returns returns-2)

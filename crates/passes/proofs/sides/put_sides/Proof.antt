@@ -5,7 +5,8 @@ use borrow.Author.Needs.{needs}
 use lib.ListN.{getD}
 use denote.Ref.{now}
 use Rattle.gates.specs.Found.{isSelectNext, isSelectAfter}
-use Rattle.passes.proofs.SideRows.{at-literal, next-inside, none-marked, none-at-end, more-none, marked-few, both-put}
+use Rattle.passes.proofs.Walking.{reached-literal}
+use Rattle.passes.proofs.SideRows.{next-inside, none-marked, none-at-end, more-none, marked-few, both-put}
 use Rattle.passes.proofs.sides.put_sides.Statement.{statement}
 use Rattle.passes.proofs.sides.put_sides.Tie as tie
 
@@ -22,13 +23,13 @@ shared-slice-read-mark : tie.Need-shared-slice-read-mark
 shared-slice-read-mark c = search needs
 
 returns-2 : tie.Need-returns-2
-returns-2 c = ((λ cs m a. a), (more-none (now (c .before .before .before .before .before .before .before .args .codes)) (now (c .before .before .before .before .before .before .before .args .marks)) _ _, none-marked (c .before .before .before .before .before .before .before .pre .0 .1) (at-literal (now (c .before .before .before .before .before .before .before .args .codes)) (c .before .before .before .before .before .before .before .pre .1 .0 .0) (c .before .before .before .before .before .before .before .pre .1 .0 .1) (c .before .before .if1 .left)) _ _ (c .if2 .taken)))
+returns-2 c = ((λ cs m a. a), (more-none (now (c .before .before .before .before .before .before .before .args .codes)) (now (c .before .before .before .before .before .before .before .args .marks)) _ _, none-marked (c .before .before .before .before .before .before .before .pre .0 .1) (reached-literal (now (c .before .before .before .before .before .before .before .args .codes)) _ _ (c .before .before .before .before .before .before .before .pre .1 .0 .0) (c .before .before .before .before .before .before .before .pre .1 .0 .1) (c .before .before .if1 .left)) _ _ (c .if2 .taken)))
 
 place-after-requires : tie.Need-place-after-requires
 place-after-requires c κs = search needs
 
 place-after-requires-2 : tie.Need-place-after-requires-2
-place-after-requires-2 c κs = let h = next-inside (c .before .before .before .before .before .before .before .before .pre .0 .1) (at-literal (now (c .before .before .before .before .before .before .before .before .args .codes)) (c .before .before .before .before .before .before .before .before .pre .1 .0 .0) (c .before .before .before .before .before .before .before .before .pre .1 .0 .1) (c .before .before .before .if1 .left)) (c .before .if2 .left) in (omega (arith, c .before .before .before .before .before .before .before .before .pre .1 .0 .0 .low, c .before .before .before .before .before .before .before .before .pre .1 .0 .1, c .before .before .before .before .before .before .before .before .pre .1 .1 .0), omega (arith, h .0, c .place-after .ensures, c .before .before .before .before .before .before .before .before .pre .1 .1 .0))
+place-after-requires-2 c κs = let h = next-inside (c .before .before .before .before .before .before .before .before .pre .0 .1) (reached-literal (now (c .before .before .before .before .before .before .before .before .args .codes)) _ _ (c .before .before .before .before .before .before .before .before .pre .1 .0 .0) (c .before .before .before .before .before .before .before .before .pre .1 .0 .1) (c .before .before .before .if1 .left)) (c .before .if2 .left) in (omega (arith, c .before .before .before .before .before .before .before .before .pre .1 .0 .0 .low, c .before .before .before .before .before .before .before .before .pre .1 .0 .1, c .before .before .before .before .before .before .before .before .pre .1 .1 .0), omega (arith, h .0, c .place-after .ensures, c .before .before .before .before .before .before .before .before .pre .1 .1 .0))
 
 mul-x : tie.Need-mul-x
 mul-x c = search needs
@@ -37,16 +38,16 @@ shared-slice-read-x : tie.Need-shared-slice-read-x
 shared-slice-read-x c = search needs
 
 mul-y : tie.Need-mul-y
-mul-y c = let h = next-inside (c .before .before .before .before .before .before .before .before .before .before .pre .0 .1) (at-literal (now (c .before .before .before .before .before .before .before .before .before .before .args .codes)) (c .before .before .before .before .before .before .before .before .before .before .pre .1 .0 .0) (c .before .before .before .before .before .before .before .before .before .before .pre .1 .0 .1) (c .before .before .before .before .before .if1 .left)) (c .before .before .before .if2 .left) in omega (arith, h .0, c .before .before .place-after .ensures, c .before .before .before .before .before .before .before .before .before .before .pre .1 .1 .0)
+mul-y c = let h = next-inside (c .before .before .before .before .before .before .before .before .before .before .pre .0 .1) (reached-literal (now (c .before .before .before .before .before .before .before .before .before .before .args .codes)) _ _ (c .before .before .before .before .before .before .before .before .before .before .pre .1 .0 .0) (c .before .before .before .before .before .before .before .before .before .before .pre .1 .0 .1) (c .before .before .before .before .before .if1 .left)) (c .before .before .before .if2 .left) in omega (arith, h .0, c .before .before .place-after .ensures, c .before .before .before .before .before .before .before .before .before .before .pre .1 .1 .0)
 
 shared-slice-read-y : tie.Need-shared-slice-read-y
-shared-slice-read-y c = let h = next-inside (c .before .before .before .before .before .before .before .before .before .before .before .pre .0 .1) (at-literal (now (c .before .before .before .before .before .before .before .before .before .before .before .args .codes)) (c .before .before .before .before .before .before .before .before .before .before .before .pre .1 .0 .0) (c .before .before .before .before .before .before .before .before .before .before .before .pre .1 .0 .1) (c .before .before .before .before .before .before .if1 .left)) (c .before .before .before .before .if2 .left) in rw (c .before .before .before .place-after .ensures) (h .0)
+shared-slice-read-y c = let h = next-inside (c .before .before .before .before .before .before .before .before .before .before .before .pre .0 .1) (reached-literal (now (c .before .before .before .before .before .before .before .before .before .before .before .args .codes)) _ _ (c .before .before .before .before .before .before .before .before .before .before .before .pre .1 .0 .0) (c .before .before .before .before .before .before .before .before .before .before .before .pre .1 .0 .1) (c .before .before .before .before .before .before .if1 .left)) (c .before .before .before .before .if2 .left) in rw (c .before .before .before .place-after .ensures) (h .0)
 
 mul-z : tie.Need-mul-z
-mul-z c = let h = next-inside (c .before .before .before .before .before .before .before .before .before .before .before .pre .0 .1) (at-literal (now (c .before .before .before .before .before .before .before .before .before .before .before .args .codes)) (c .before .before .before .before .before .before .before .before .before .before .before .pre .1 .0 .0) (c .before .before .before .before .before .before .before .before .before .before .before .pre .1 .0 .1) (c .before .before .before .before .before .before .if1 .left)) (c .before .before .before .before .if2 .left) in rw (c .before .before .place-after2 .ensures, c .before .before .before .place-after .ensures) (omega (arith, h .1, c .before .before .before .before .before .before .before .before .before .before .before .pre .1 .1 .0))
+mul-z c = let h = next-inside (c .before .before .before .before .before .before .before .before .before .before .before .pre .0 .1) (reached-literal (now (c .before .before .before .before .before .before .before .before .before .before .before .args .codes)) _ _ (c .before .before .before .before .before .before .before .before .before .before .before .pre .1 .0 .0) (c .before .before .before .before .before .before .before .before .before .before .before .pre .1 .0 .1) (c .before .before .before .before .before .before .if1 .left)) (c .before .before .before .before .if2 .left) in rw (c .before .before .place-after2 .ensures, c .before .before .before .place-after .ensures) (omega (arith, h .1, c .before .before .before .before .before .before .before .before .before .before .before .pre .1 .1 .0))
 
 shared-slice-read-z : tie.Need-shared-slice-read-z
-shared-slice-read-z c = let h = next-inside (c .before .before .before .before .before .before .before .before .before .before .before .before .pre .0 .1) (at-literal (now (c .before .before .before .before .before .before .before .before .before .before .before .before .args .codes)) (c .before .before .before .before .before .before .before .before .before .before .before .before .pre .1 .0 .0) (c .before .before .before .before .before .before .before .before .before .before .before .before .pre .1 .0 .1) (c .before .before .before .before .before .before .before .if1 .left)) (c .before .before .before .before .before .if2 .left) in rw (c .before .before .before .place-after2 .ensures, c .before .before .before .before .place-after .ensures) (h .1)
+shared-slice-read-z c = let h = next-inside (c .before .before .before .before .before .before .before .before .before .before .before .before .pre .0 .1) (reached-literal (now (c .before .before .before .before .before .before .before .before .before .before .before .before .args .codes)) _ _ (c .before .before .before .before .before .before .before .before .before .before .before .before .pre .1 .0 .0) (c .before .before .before .before .before .before .before .before .before .before .before .before .pre .1 .0 .1) (c .before .before .before .before .before .before .before .if1 .left)) (c .before .before .before .before .before .if2 .left) in rw (c .before .before .before .place-after2 .ensures, c .before .before .before .before .place-after .ensures) (h .1)
 
 put-marked-requires : tie.Need-put-marked-requires
 put-marked-requires c κs = search needs
@@ -62,7 +63,7 @@ returns-3 : tie.Need-returns-3
 unfolding isSelectNext isSelectAfter
 returns-3 c =
     let s = c .before .before .before .before .before .before .before .before .before .before .before .before .before .before .before .before .before .before .before .before in
-    let l = at-literal (now (s .args .codes)) (s .pre .1 .0 .0) (s .pre .1 .0 .1) (c .before .before .before .before .before .before .before .before .before .before .before .before .before .before .before .if1 .left) in
+    let l = reached-literal (now (s .args .codes)) _ _ (s .pre .1 .0 .0) (s .pre .1 .0 .1) (c .before .before .before .before .before .before .before .before .before .before .before .before .before .before .before .if1 .left) in
     let one = c .before .before .before .before .before .before .before .before .before .before .before .before .place-after in
     let two = c .before .before .before .before .before .before .before .before .before .before .before .place-after2 in
     let first = c .before .before .before .before .before .before .put-marked in

@@ -29,7 +29,7 @@ literal-requires : tie.Need-literal-requires Inv-loop μ-loop
 literal-requires c κs = search needs
 
 sub-take-clause : tie.Need-sub-take-clause Inv-loop μ-loop
-sub-take-clause c = omega (arith, c .before .before .before .before .before .before .before .before .loop .inv .low)
+sub-take-clause c = omega (arith, c .before .before .before .before .before .before .before .before .loop .inv .reached .low)
 
 take-clause-requires : tie.Need-take-clause-requires Inv-loop μ-loop
 take-clause-requires c κs = let s = c .before .before .before .before .before .before .before .before .before .before .before .before .before .before .before .before .before .before .before .before .before .pre in
