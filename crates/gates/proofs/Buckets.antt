@@ -32,7 +32,7 @@ pub same-bucket : (c d : List ℕ) → Same c d → bucketOf c ≡ bucketOf d
 unfolding bucketOf
 same-bucket c d s =
     let p = perm-of-same (literals c) (literals d) (literals-distinct c) (literals-distinct d) (same-trans (literals-same c) (same-trans s (same-sym (literals-same d)))) in
-    ap (λ (n : ℕ). n % 4096) (sum-perm p)
+    ap (λ (n : ℕ). n % buckets) (sum-perm p)
 
 pub bucket-small : (c : List ℕ) → bucketOf c < buckets
 unfolding bucketOf

@@ -20,7 +20,7 @@ sum [] = 0
 sum (x ∷ c) = share x + sum c
 
 abbrev pub buckets : ℕ
-buckets = 4096
+buckets = 16384
 
 -- the bucket of a clause: clauses with the same literals have the same one
 unfoldable pub bucketOf : List ℕ → ℕ

@@ -71,7 +71,7 @@ pub struct Finding {
 }
 
 // Writes the normal form of a row at the start of the codes, and the marks of its gates at the start of the marks. Besides what
-// is lent it uses 88,066 numbers and 16,384 bytes of its own, 368,648 bytes.
+// is lent it uses 100,354 numbers and 16,384 bytes of its own, 417,800 bytes.
 pub fn find_gates(row: &[i32], codes: &mut [u32], marks: &mut [u8]) -> Finding
     requires { ⌜ length (now row) ≤ maxEntries ⌝ }
     requires { ⌜ length (now row) ≤ length (now codes) ⌝ }

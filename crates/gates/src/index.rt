@@ -12,7 +12,7 @@ ghost use Rattle.gates.specs.Search.{Once};
 ghost use Rattle.gates.specs.Index.{share, buckets, bucketOf, isStart, Indexed};
 
 // The number of buckets (specs/Index.antt).
-pub const BUCKETS: usize = 4096;
+pub const BUCKETS: usize = 16384;
 
 // What a literal adds to the sum of its clause.
 fn share(x: u32) -> usize
