@@ -26,39 +26,41 @@ use Rattle.closure.proofs.Running.{Reached, none-made, round-starts, no
 -- the leads after the rounds made so far, or how closing has ended
 pub data Between (row marks : List ℕ) (limit v : ℕ) (leads next older : List ℕ) (p : Progress) : Type 0 where
   going : p .more ≡ true → Reached v (clausesIn row) (p .rounds) leads next (p .groups) → p .rounds ≤ limit → length older ≡ length leads
-      → (p .rounds ≢ 0 → RowJoined row marks older leads (fresh 0)) → Between row marks limit v leads next older p
+      → (p .rounds ≡ 0 → older ≡ leads) → (p .rounds ≢ 0 → RowJoined row marks older leads (fresh 0)) → Between row marks limit v leads next older p
   over : p .more ≡ false → ended (p .verdict) (p .rounds) leads ≡ closed v (clausesIn row) limit → p .groups ≡ length (own v leads)
       → length leads ≡ v → length next ≡ v → length older ≡ v → Between row marks limit v leads next older p
 
 module _ {row marks : List ℕ} {limit v : ℕ} {leads next older : List ℕ} {p : Progress} where
   pub between-sizes : Between row marks limit v leads next older p → (length leads ≡ v) × (length next ≡ v) × (length older ≡ v)
-  between-sizes (going m r h s b) = (r .row .size, ap length (r .ready) ∙ r .row .size, s ∙ r .row .size)
+  between-sizes (going m r h s f b) = (r .row .size, ap length (r .ready) ∙ r .row .size, s ∙ r .row .size)
   between-sizes (over m e g a b c) = (a, b, c)
 
   pub is-over : Between row marks limit v leads next older p → p .more ≡ false
       → (ended (p .verdict) (p .rounds) leads ≡ closed v (clausesIn row) limit) × (p .groups ≡ length (own v leads))
-  is-over (going m r h s b) e = absurd (true≢false (sym m ∙ e))
+  is-over (going m r h s f b) e = absurd (true≢false (sym m ∙ e))
   is-over (over m e g a b c) k = (e, g)
 
 pub loop-begins : (row marks : List ℕ) (limit : ℕ) (leads next older : List ℕ) (p : Progress) → leads ≡ netsOf (length leads) → next ≡ leads
-    → length older ≡ length leads → p .more ≡ true → p .rounds ≡ 0 → p .groups ≡ length leads → Between row marks limit (length leads) leads next older p
-loop-begins row marks limit leads next older p first same size m z g =
+    → older ≡ leads → p .more ≡ true → p .rounds ≡ 0 → p .groups ≡ length leads → Between row marks limit (length leads) leads next older p
+loop-begins row marks limit leads next older p first same before m z g =
     going m
     (subst₂ (λ (n k : ℕ). Reached (length leads) (clausesIn row) n leads next k) (sym z) (sym g)
     (subst₂ (λ (l o : List ℕ). Reached (length leads) (clausesIn row) 0 l o (length leads)) (sym first) (sym (same ∙ first)) (none-made (length leads) (clausesIn row))))
-    (omega arith) size (λ n. absurd (n z))
+    (omega arith) (ap length before) (λ e. before) (λ n. absurd (n z))
 
 module _ {row marks : List ℕ} {limit v : ℕ} {leads next older : List ℕ} {p : Progress} (found : Found (clausesIn row) row marks) (fit : Fits v (clausesIn row))
     (few : v ≤ maxNets) (entries : length row ≤ maxEntries) (between : Between row marks limit v leads next older p) (more : p .more ≡ true) where
   abbrev cs : List (List ℕ)
   cs = clausesIn row
 
-  reached : Reached v cs (p .rounds) leads next (p .groups) × (p .rounds ≤ limit) × (length older ≡ length leads) × (p .rounds ≢ 0 → RowJoined row marks older leads (fresh 0))
+  reached : Reached v cs (p .rounds) leads next (p .groups) × (p .rounds ≤ limit) × (length older ≡ length leads) × (p .rounds ≡ 0 → older ≡ leads)
+      × (p .rounds ≢ 0 → RowJoined row marks older leads (fresh 0))
   reached = go between
     where
       go : Between row marks limit v leads next older p
-          → Reached v cs (p .rounds) leads next (p .groups) × (p .rounds ≤ limit) × (length older ≡ length leads) × (p .rounds ≢ 0 → RowJoined row marks older leads (fresh 0))
-      go (going m r h s b) = (r, h, s, b)
+          → Reached v cs (p .rounds) leads next (p .groups) × (p .rounds ≤ limit) × (length older ≡ length leads) × (p .rounds ≡ 0 → older ≡ leads)
+          × (p .rounds ≢ 0 → RowJoined row marks older leads (fresh 0))
+      go (going m r h s f b) = (r, h, s, f, b)
       go (over m e g a b c) = absurd (true≢false (sym more ∙ m))
 
   pub few-made : p .rounds ≤ limit
@@ -75,7 +77,8 @@ module _ {row marks : List ℕ} {limit v : ℕ} {leads next older : List ℕ} {p
         size = reached .2;
         making = round-starts v cs (p .rounds) leads next (p .groups) (reached .0);
         same = reached .0 .ready;
-        before = reached .3;
+        first = reached .3;
+        before = reached .4;
       }
 
   -- it has been made
@@ -112,7 +115,7 @@ module _ {row marks : List ℕ} {limit v : ℕ} {leads next older : List ℕ} {p
           (round-clashes v cs (p .rounds) leads next (p .groups) (reached .0) fit limit new t making rules c l) (none-left v cs (p .rounds) leads next (p .groups) (reached .0))
       round-followed (Followed.made h l c e o) =
           let m = round-made v cs (p .rounds) leads next (p .groups) (reached .0) fit limit new t making rules c (moved-joins t h c) in
-          going refl (subst⁻¹ (λ (k : List ℕ). Reached v cs (p .rounds + 1) k new (t .groups)) e m) (omega arith) (older-size ∙ sym new-size ∙ ap length (sym e))
+          going refl (subst⁻¹ (λ (k : List ℕ). Reached v cs (p .rounds + 1) k new (t .groups)) e m) (omega arith) (older-size ∙ sym new-size ∙ ap length (sym e)) (λ z. absurd (omega arith))
           (λ n. subst₂ (λ (k j : List ℕ). RowJoined row marks k j (fresh 0)) (sym o) (sym e) (row-later row marks leads new t new (fresh 0) (later c) joined))
 
   -- the rounds that may still be made become fewer
@@ -126,3 +129,10 @@ module _ {row marks : List ℕ} {limit v : ℕ} {leads next older : List ℕ} {p
       go (Followed.stopped h l e) = omega (arith, few-made)
       go (Followed.clashed h l c e) = omega (arith, few-made)
       go (Followed.made h l c e o) = omega arith
+
+-- where more rounds follow, the older leads are those before the round
+pub older-is : {limit : ℕ} {p q : Progress} {t : Tally} {leads next leads′ older′ : List ℕ} → Followed limit p t leads next leads′ older′ q → q .more ≡ true → older′ ≡ leads
+older-is (Followed.settled h e) m = absurd (true≢false (sym m))
+older-is (Followed.stopped h l e) m = absurd (true≢false (sym m))
+older-is (Followed.clashed h l c e) m = absurd (true≢false (sym m))
+older-is (Followed.made h l c e o) m = o

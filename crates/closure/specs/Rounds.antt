@@ -27,6 +27,7 @@ pub record Starting (row marks older old new : List ℕ) (rounds groups : ℕ) :
   pub size : length older ≡ length old
   pub making : Making (clausesIn row) old new (fresh groups)
   pub same : new ≡ old
+  pub first : rounds ≡ 0 → older ≡ old
   -- the round before, if there was one, has joined all that the older leads draw
   pub before : rounds ≢ 0 → RowJoined row marks older old (fresh 0)
 

@@ -23,6 +23,7 @@ use clauses::refusal::Refusal;
 use clauses::tally::tally_row;
 use gates::fill::fill;
 use gates::finder::find_gates;
+use passes::by_lead::enter_all;
 use passes::index::index_row;
 use passes::lead::first_leads;
 use rules::Verdict;
@@ -37,6 +38,8 @@ const MAX_WORK: usize = 16384;
 const STARTS: usize = 2 * MAX_ENTRIES;
 
 const PLACES: usize = MAX_NETS as usize + 1;
+
+const LEAD_ENTRIES: usize = MAX_ENTRIES + 1;
 
 const HEADS: usize = 8192;
 
@@ -78,7 +81,11 @@ fn close_codes(
     let mut starts = [0u32; STARTS];
     let mut places = [0u32; PLACES];
     let mut links = [0u32; MAX_ENTRIES];
+    let mut tops = [0u32; PLACES];
+    let mut entries = [0u32; LEAD_ENTRIES];
+    let mut steps = [0u32; MAX_ENTRIES];
     let mut touched = [0u8; CODES];
+    let mut sought = [0u8; PLACES];
     let mut seen = [0u8; MAX_ENTRIES];
     let mut part = [0u32; MAX_ENTRIES];
     let mut tags = [0u8; MAX_ENTRIES];
@@ -90,6 +97,8 @@ fn close_codes(
     index_row(codes, marks, &mut starts, &mut places, &mut links);
     first_leads(leads);
     first_leads(next);
+    first_leads(older);
+    enter_all(codes, &starts, leads, &mut tops, &mut entries, &mut steps);
     run(
         codes,
         marks,
@@ -100,7 +109,11 @@ fn close_codes(
         leads,
         next,
         older,
+        &mut tops,
+        &mut entries,
+        &mut steps,
         &mut touched,
+        &mut sought,
         &mut seen,
         &mut part,
         &mut tags,

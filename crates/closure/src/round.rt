@@ -5,6 +5,7 @@ ghost use Rattle.passes.specs.Making.{Making};
 ghost use Rattle.passes.specs.RowJoined.{RowJoined};
 ghost use Rattle.passes.specs.Scratch.{Scratch, PartRows};
 ghost use Rattle.passes.specs.Indexing.{Indexed};
+ghost use Rattle.passes.specs.ByLead.{ByLead, AllEntered};
 ghost use Rattle.closure.specs.Rounds.{Starting};
 use passes::parts::take_active;
 use passes::row::by_rules;
@@ -20,7 +21,11 @@ pub fn round(
     older: &[u32],
     old: &[u32],
     new: &mut [u32],
+    tops: &mut [u32],
+    entries: &mut [u32],
+    steps: &mut [u32],
     touched: &mut [u8],
+    sought: &mut [u8],
     seen: &mut [u8],
     part: &mut [u32],
     tags: &mut [u8],
@@ -34,10 +39,12 @@ pub fn round(
 ) -> Tally
     requires { ⌜ Starting (now codes) (now marks) (now older) (now old) (now new) rounds groups ⌝ }
     requires { ⌜ Indexed (now codes) (now marks) (now starts) (now places) (now links) ⌝ }
-    requires { ⌜ PartRows (now touched) (now seen) (now part) (now tags) ⌝ }
+    requires { ⌜ ByLead (now codes) (now tops) (now entries) (now steps) × AllEntered (now codes) (now starts) (now older) (now entries) ⌝ }
+    requires { ⌜ PartRows (now touched) (now sought) (now seen) (now part) (now tags) ⌝ }
     requires { ⌜ Scratch (now keys) (now values) (now heads) (now chain) (now sides) ⌝ }
     ensures making { λ r. ⌜ Making (clausesIn (now (codes .entry))) (now (old .entry)) (now (new .exit)) r ⌝ }
     ensures joined { λ r. ⌜ RowJoined (now (codes .entry)) (now (marks .entry)) (now (old .entry)) (now (new .exit)) r ⌝ }
+    ensures places { λ _. ⌜ ByLead (now (codes .entry)) (now (tops .exit)) (now (entries .exit)) (now (steps .exit)) × AllEntered (now (codes .entry)) (now (starts .entry)) (now (old .entry)) (now (entries .exit)) ⌝ }
 {
     let start = Tally {
         groups: groups,
@@ -67,7 +74,11 @@ pub fn round(
         links,
         older,
         old,
+        tops,
+        entries,
+        steps,
         touched,
+        sought,
         seen,
         part,
         tags,

@@ -13,6 +13,7 @@ ghost use Rattle.rules.specs.Answer.{own};
 ghost use Rattle.rules.specs.Compute.{ended, closed};
 ghost use Rattle.passes.specs.Scratch.{Scratch, PartRows};
 ghost use Rattle.passes.specs.Indexing.{Indexed};
+ghost use Rattle.passes.specs.ByLead.{ByLead, AllEntered};
 ghost use Rattle.closure.specs.Rounds.{isStill, Followed};
 use crate::round::round;
 use gates::fill::fill;
@@ -106,7 +107,11 @@ pub fn run(
     leads: &mut [u32],
     next: &mut [u32],
     older: &mut [u32],
+    tops: &mut [u32],
+    entries: &mut [u32],
+    steps: &mut [u32],
     touched: &mut [u8],
+    sought: &mut [u8],
     seen: &mut [u8],
     part: &mut [u32],
     tags: &mut [u8],
@@ -119,9 +124,10 @@ pub fn run(
     requires { ⌜ Found (clausesIn (now codes)) (now codes) (now marks) ⌝ }
     requires { ⌜ Fits (length (now leads)) (clausesIn (now codes)) ⌝ }
     requires { ⌜ (length (now leads) ≤ maxNets) × (length (now codes) ≤ maxEntries) ⌝ }
-    requires { ⌜ (now leads ≡ netsOf (length (now leads))) × (now next ≡ now leads) × (length (now older) ≡ length (now leads)) ⌝ }
+    requires { ⌜ (now leads ≡ netsOf (length (now leads))) × (now next ≡ now leads) × (now older ≡ now leads) ⌝ }
     requires { ⌜ Indexed (now codes) (now marks) (now starts) (now places) (now links) ⌝ }
-    requires { ⌜ PartRows (now touched) (now seen) (now part) (now tags) ⌝ }
+    requires { ⌜ ByLead (now codes) (now tops) (now entries) (now steps) × AllEntered (now codes) (now starts) (now leads) (now entries) ⌝ }
+    requires { ⌜ PartRows (now touched) (now sought) (now seen) (now part) (now tags) ⌝ }
     requires { ⌜ Scratch (now keys) (now values) (now heads) (now chain) (now sides) ⌝ }
     ensures { λ r. ⌜ ended (r .verdict) (r .rounds) (now (leads .exit)) ≡ closed (length (now (leads .entry))) (clausesIn (now (codes .entry))) limit ⌝ }
     ensures { λ r. ⌜ r .groups ≡ length (own (length (now (leads .entry))) (now (leads .exit))) ⌝ }
@@ -144,7 +150,11 @@ pub fn run(
             older,
             leads,
             next,
+            tops,
+            entries,
+            steps,
             touched,
+            sought,
             seen,
             part,
             tags,

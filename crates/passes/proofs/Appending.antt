@@ -11,7 +11,7 @@ use lib.Seq.{getD-set-same, getD-set-other, getD-take, length-take-le}
 use Rattle.gates.specs.Found.{clauseAt, Starts}
 use Rattle.gates.proofs.Rows.{clause-goes-on, clause-stops, clause-ended, literal-some, starts-apart}
 use Rattle.passes.specs.Parts.{Ended, Copy, Part, Active, HoldsActive}
-use Rattle.passes.specs.Taking.{HasMark, Keeps, markCount, Sees, Laid, Taken, Took}
+use Rattle.passes.specs.Taking.{HasMark, Keeps, markCount, Sees, Laid, Extends, Taken, Took}
 use Rattle.gates.proofs.Fills.{zero-at}
 use Rattle.passes.proofs.MarkCounts.{count-none, count-fits}
 
@@ -143,6 +143,15 @@ same-start codes b d q s l h t m k = go (ℕ-discrete d b) (decLt d b)
     go (yes e) c = e
     go (no n) (yes c) = absurd (omega (arith, starts-apart codes d b s c))
     go (no n) (no c) = absurd (omega (arith, starts-apart codes b d t (omega arith)))
+
+-- nothing is added
+pub extends-none : (part : List ℕ) (n : ℕ) → Extends part n part n
+extends-none part n = record { more = omega arith; stays = λ i h. refl }
+
+-- .. and twice something
+pub extends-more : {part part′ part″ : List ℕ} {n n′ n″ : ℕ} → Extends part n part′ n′ → Extends part′ n′ part″ n″ → Extends part n part″ n″
+extends-more e f =
+    record { more = omega (arith, e .more, f .more); stays = λ i h. f .stays i (omega (arith, e .more)) ∙ e .stays i h }
 
 -- a clause that is seen already
 pub took-seen : (codes : List ℕ) (b : ℕ) (seen : List ℕ) → HasMark seen b → Took codes b seen seen

@@ -36,6 +36,7 @@ pub mod ActiveItes
 pub mod ActiveParts
 pub mod MarkCounts
 pub mod Indexing
+pub mod ByLead
 pub mod Taking
 pub mod Appending
 pub mod RowRules

@@ -12,4 +12,5 @@ pub mod Marked
 pub mod RowJoined
 pub mod Parts
 pub mod Indexing
+pub mod ByLead
 pub mod Taking

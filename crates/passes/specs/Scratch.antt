@@ -15,9 +15,10 @@ pub record Scratch (keys values heads chain sides : List ℕ) : Type 0 where
   pub chain-room : length chain ≡ 2 * maxSides
   pub side-room : length sides ≡ 3 * maxSides
 
--- the rows of the active part: one with an entry for each literal and constant, one with an entry for each place, the part and its marks
-pub record PartRows (touched seen part tags : List ℕ) : Type 0 where
+-- the rows of the active part: one with an entry for each literal and constant, one for each net, one for each place, the part and its marks
+pub record PartRows (touched sought seen part tags : List ℕ) : Type 0 where
   pub touched-room : length touched ≡ 2 * maxNets + 2
+  pub sought-room : length sought ≡ maxNets + 1
   pub seen-room : length seen ≡ maxEntries
   pub part-room : length part ≡ maxEntries
   pub tag-room : length tags ≡ maxEntries

@@ -42,14 +42,15 @@ isTouched touched skip n = not (eqb n 0) && (not (eqb n skip) && not (eqb (getD 
 abbrev pub asSelect : ℕ → ℕ
 asSelect n = maxNets + 1 + n
 
--- net n is touched for a place that is this to its gates, where ties count, and selects do
-pub record TouchedBy (ties sides : Bool) (tie : ℕ) (touched : List ℕ) (n : ℕ) : Type 0 where
-  pub tied : ties ≡ true → tie % 2 ≡ 1 → HasMark touched n
-  pub select : sides ≡ true → tie / 2 % 2 ≡ 1 → HasMark touched n × HasMark touched (asSelect n)
+-- net n is touched for a place that is this to its gates, where ties count, and selects do; it is to be looked for, unless it is tied and `skip`
+pub record TouchedBy (ties sides : Bool) (tie skip : ℕ) (touched sought : List ℕ) (n : ℕ) : Type 0 where
+  pub tied : ties ≡ true → tie % 2 ≡ 1 → HasMark touched n × (n ≢ skip → HasMark sought n)
+  pub select : sides ≡ true → tie / 2 % 2 ≡ 1 → HasMark touched n × HasMark touched (asSelect n) × HasMark sought n
 
 -- the leads from place b up to e are touched
-abbrev pub Touched : List ℕ → List ℕ → List ℕ → Bool → Bool → List ℕ → ℕ → ℕ → Type 0
-Touched codes starts old ties sides touched b e = (q : ℕ) → b ≤ q → q < e → TouchedBy ties sides (tieAt starts q) touched (net (leadAt codes old q))
+abbrev pub Touched : List ℕ → List ℕ → List ℕ → Bool → Bool → ℕ → List ℕ → List ℕ → ℕ → ℕ → Type 0
+Touched codes starts old ties sides skip touched sought b e =
+    (q : ℕ) → b ≤ q → q < e → TouchedBy ties sides (tieAt starts q) skip touched sought (net (leadAt codes old q))
 
 -- a gate ties place q; rules 7 and 8 read its lead
 unfoldable pub isTied : List ℕ → ℕ → Bool
@@ -58,18 +59,20 @@ isTied starts q = eqb (getD starts q 0 % 2) 1
 unfoldable pub isRead : List ℕ → ℕ → Bool
 isRead starts q = ltb 1 (tieAt starts q)
 
--- the clause of place q, whose lead has changed, is seen if that tells anything, and its leads are touched
-pub record SeesPlace (codes starts old seen touched : List ℕ) (q : ℕ) : Type 0 where
+-- the clause of place q, whose lead has changed, is seen if that tells anything, and its leads are touched and to be looked for, but for those of
+-- one net: a clause that shares two of them with it is found by the other one
+pub record SeesPlace (codes starts old seen touched sought : List ℕ) (q : ℕ) : Type 0 where
   pub told : (tieAt starts q ≢ 0) ⊎ (net (leadAt codes old q) ≡ 0) → HasMark seen (startAt starts q)
-  pub touches : Touched codes starts old (isTied starts q) (isRead starts q) touched (startAt starts q) (startAt starts q + length (clauseAt codes (startAt starts q)))
+  pub skip : ℕ
+  pub touches : Touched codes starts old (isTied starts q) (isRead starts q) skip touched sought (startAt starts q) (startAt starts q + length (clauseAt codes (startAt starts q)))
 
 -- .. of the places of net w
-abbrev pub SeesNet : List ℕ → List ℕ → List ℕ → ℕ → List ℕ → List ℕ → Type 0
-SeesNet codes starts old w seen touched = (q : ℕ) → q < length codes → netAt codes q ≡ w → SeesPlace codes starts old seen touched q
+abbrev pub SeesNet : List ℕ → List ℕ → List ℕ → ℕ → List ℕ → List ℕ → List ℕ → Type 0
+SeesNet codes starts old w seen touched sought = (q : ℕ) → q < length codes → netAt codes q ≡ w → SeesPlace codes starts old seen touched sought q
 
 -- .. of the nets up to w whose leads have changed
-abbrev pub SeesMoved : List ℕ → List ℕ → List ℕ → List ℕ → ℕ → List ℕ → List ℕ → Type 0
-SeesMoved codes starts older old w seen touched = (x : ℕ) → x < w → hasMoved older old x ≡ true → SeesNet codes starts old (x + 1) seen touched
+abbrev pub SeesMoved : List ℕ → List ℕ → List ℕ → List ℕ → ℕ → List ℕ → List ℕ → List ℕ → Type 0
+SeesMoved codes starts older old w seen touched sought = (x : ℕ) → x < w → hasMoved older old x ≡ true → SeesNet codes starts old (x + 1) seen touched sought
 
 -- a touched lead of the clause at b is of another net than the lead at q
 pub record OtherTouched (codes old touched : List ℕ) (b q : ℕ) : Type 0 where
@@ -77,18 +80,20 @@ pub record OtherTouched (codes old touched : List ℕ) (b q : ℕ) : Type 0 wher
   pub at : LiteralAt codes b other
   pub touched-so : isTouched touched (net (leadAt codes old q)) (net (leadAt codes old other)) ≡ true
 
--- the clause of place q, whose lead is touched, has to be taken: as a select its lead is touched as one, or a gate ties it and another touched lead
+-- the clause of place q has to be taken: as a select its lead is touched as one, or a gate ties it and the clause has a touched lead of another net
 pub data Due (codes starts old touched : List ℕ) (q : ℕ) : Type 0 where
   by-select : tieAt starts q / 2 % 2 ≡ 1 → HasMark touched (asSelect (net (leadAt codes old q))) → Due codes starts old touched q
   by-tie : getD starts q 0 % 2 ≡ 1 → OtherTouched codes old touched (startAt starts q) q → Due codes starts old touched q
 
--- the clauses of net w that are due are seen
+-- the clauses that are due for places whose leads are of net w are seen
 abbrev pub SeesDue : List ℕ → List ℕ → List ℕ → List ℕ → ℕ → List ℕ → Type 0
-SeesDue codes starts old touched w seen = (q : ℕ) → q < length codes → netAt codes q ≡ w → Due codes starts old touched q → HasMark seen (startAt starts q)
+SeesDue codes starts old touched w seen =
+    (q : ℕ) → q < length codes → getD codes q 0 ≢ 0 → net (leadAt codes old q) ≡ w → Due codes starts old touched q → HasMark seen (startAt starts q)
 
--- .. of the nets up to w whose leads are touched
-abbrev pub SeesTouched : List ℕ → List ℕ → List ℕ → List ℕ → ℕ → List ℕ → Type 0
-SeesTouched codes starts old touched w seen = (x : ℕ) → x < w → isTouched touched 0 (net (getD old x 0)) ≡ true → SeesDue codes starts old touched (x + 1) seen
+-- .. of the nets of leads at the first m places of the part that are to be looked for
+abbrev pub SeesSought : List ℕ → List ℕ → List ℕ → List ℕ → List ℕ → List ℕ → ℕ → List ℕ → Type 0
+SeesSought codes starts old touched sought part m seen =
+    (i : ℕ) → i < m → HasMark sought (net (leadAt part old i)) → SeesDue codes starts old touched (net (leadAt part old i)) seen
 
 -- the k places from b on, which had no mark, have got one, and no others have
 pub record Sees (seen : List ℕ) (b k : ℕ) (seen′ : List ℕ) : Type 0 where
@@ -102,6 +107,11 @@ pub record Sees (seen : List ℕ) (b k : ℕ) (seen′ : List ℕ) : Type 0 wher
 pub record Laid (row : List ℕ) (b k : ℕ) (part : List ℕ) (n : ℕ) (part′ : List ℕ) : Type 0 where
   pub stays : (i : ℕ) → i < n → getD part′ i 0 ≡ getD part i 0
   pub laid : (i : ℕ) → i < k → getD part′ (n + i) 0 ≡ getD row (b + i) 0
+
+-- the first n entries are what they were, and there are no fewer now
+pub record Extends (part : List ℕ) (n : ℕ) (part′ : List ℕ) (n′ : ℕ) : Type 0 where
+  pub more : n ≤ n′
+  pub stays : (i : ℕ) → i < n → getD part′ i 0 ≡ getD part i 0
 
 -- the clauses that are seen, each at all of its places, are copied: n entries are written
 pub record Taken (codes marks seen part partMarks : List ℕ) (n : ℕ) : Type 0 where

@@ -3,6 +3,7 @@
 mod and_pairs;
 mod and_sets;
 mod ands;
+pub mod by_lead;
 mod clashes;
 mod held;
 pub mod index;

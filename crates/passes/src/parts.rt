@@ -1,21 +1,25 @@
 // The part of a row that a round has to go over: the clauses of which a lead has changed, and those that are due for the leads of one.
 
 ghost use mathlib.Core.Path.{_≡_};
-ghost use mathlib.Core.Logic.{_≢_};
+ghost use mathlib.Core.Logic.{_≢_, _⊎_};
 ghost use Prim.Native.Nat.{ℕ, _+_, _*_, _≤_, _<_};
 ghost use lib.ListN.{length, getD, take};
 ghost use Rattle.clauses.specs.Code.{net};
-ghost use Rattle.clauses.specs.Limit.{maxNets};
+ghost use Rattle.clauses.specs.Limit.{maxNets, maxEntries};
 ghost use Rattle.gates.specs.Found.{clauseAt, Starts};
 ghost use Rattle.passes.specs.Passing.{leadAt};
 ghost use Rattle.passes.specs.Xors.{LeadRow};
 ghost use Rattle.passes.specs.Parts.{Ended, Part, HoldsActive};
 ghost use Rattle.passes.specs.Indexing.{Listed, Indexed, startAt};
-ghost use Rattle.passes.specs.Taking.{Keeps, asSelect, SeesPlace, SeesNet, SeesMoved, Due, SeesDue, SeesTouched, HasMark, Sees, Laid, Taken, Took};
+ghost use Rattle.passes.specs.ByLead.{entryCount, ByLead, AllEntered};
+ghost use Rattle.passes.specs.Taking.{Keeps, asSelect, SeesPlace, SeesNet, SeesMoved, Due, SeesDue, SeesSought, HasMark, Sees, Laid, Extends, Taken, Took};
+use crate::by_lead::enter_missing;
+use crate::by_lead::enter_net;
 use crate::touched::is_due;
 use crate::touched::is_idle;
+use crate::touched::lead_net;
 use crate::touched::next_moved;
-use crate::touched::next_touched;
+use crate::touched::other_tied;
 use crate::touched::touch;
 use clauses::limits::MAX_ENTRIES;
 use gates::fill::clear;
@@ -72,6 +76,7 @@ fn take_clause(
     requires { ⌜ Taken (now codes) (now marks) (now seen) (now part) (now tags) n ⌝ }
     ensures taken { λ r. ⌜ Taken (now (codes .entry)) (now (marks .entry)) (now (seen .exit)) (now (part .exit)) (now (tags .exit)) r ⌝ }
     ensures took { λ _. ⌜ Took (now (codes .entry)) b (now (seen .entry)) (now (seen .exit)) ⌝ }
+    ensures extends { λ r. ⌜ Extends (now (part .entry)) n (now (part .exit)) r ⌝ }
 {
     if seen[b] != 0 {
         return n;
@@ -90,6 +95,7 @@ fn take_changed(
     q: usize,
     old: &[u32],
     touched: &mut [u8],
+    sought: &mut [u8],
     seen: &mut [u8],
     part: &mut [u32],
     tags: &mut [u8],
@@ -97,11 +103,11 @@ fn take_changed(
 ) -> usize
     requires { ⌜ Listed (now codes) (now marks) (now starts) × Ended (now codes) × (q < length (now codes)) × (getD (now codes) q 0 ≢ 0) ⌝ }
     requires { ⌜ (length (now marks) ≡ length (now codes)) × (length (now codes) ≤ length (now seen)) × (length (now seen) ≤ length (now part)) × (length (now seen) ≤ length (now tags)) ⌝ }
-    requires { ⌜ ((p : ℕ) → asSelect (net (leadAt (now codes) (now old) p)) < length (now touched)) ⌝ }
+    requires { ⌜ ((p : ℕ) → (asSelect (net (leadAt (now codes) (now old) p)) < length (now touched)) × (net (leadAt (now codes) (now old) p) < length (now sought))) ⌝ }
     requires { ⌜ Taken (now codes) (now marks) (now seen) (now part) (now tags) n ⌝ }
     ensures taken { λ r. ⌜ Taken (now (codes .entry)) (now (marks .entry)) (now (seen .exit)) (now (part .exit)) (now (tags .exit)) r ⌝ }
-    ensures keeps { λ _. ⌜ Keeps (now (seen .entry)) (now (seen .exit)) × Keeps (now (touched .entry)) (now (touched .exit)) ⌝ }
-    ensures sees { λ _. ⌜ SeesPlace (now (codes .entry)) (now (starts .entry)) (now (old .entry)) (now (seen .exit)) (now (touched .exit)) q ⌝ }
+    ensures keeps { λ _. ⌜ Keeps (now (seen .entry)) (now (seen .exit)) × Keeps (now (touched .entry)) (now (touched .exit)) × Keeps (now (sought .entry)) (now (sought .exit)) ⌝ }
+    ensures sees { λ _. ⌜ SeesPlace (now (codes .entry)) (now (starts .entry)) (now (old .entry)) (now (seen .exit)) (now (touched .exit)) (now (sought .exit)) q ⌝ }
 {
     if is_idle(codes, starts, q, old) {
         return n;
@@ -109,7 +115,19 @@ fn take_changed(
     let s = starts[q] as usize;
     let b = s / 8;
     let e = starts[MAX_ENTRIES + b] as usize;
-    touch(codes, starts, b, e, s % 2 == 1, 1 < s % 8, old, touched);
+    let skip = other_tied(codes, starts, b, e, old, lead_net(codes, old, q));
+    touch(
+        codes,
+        starts,
+        b,
+        e,
+        s % 2 == 1,
+        1 < s % 8,
+        skip,
+        old,
+        touched,
+        sought,
+    );
     take_clause(codes, marks, b, e, seen, part, tags, n)
 }
 
@@ -123,6 +141,7 @@ fn take_changed_chain(
     w: usize,
     old: &[u32],
     touched: &mut [u8],
+    sought: &mut [u8],
     seen: &mut [u8],
     part: &mut [u32],
     tags: &mut [u8],
@@ -130,11 +149,11 @@ fn take_changed_chain(
 ) -> usize
     requires { ⌜ Indexed (now codes) (now marks) (now starts) (now heads) (now next) × Ended (now codes) × (0 < w) × (w < length (now heads)) ⌝ }
     requires { ⌜ (length (now marks) ≡ length (now codes)) × (length (now codes) ≤ length (now seen)) × (length (now seen) ≤ length (now part)) × (length (now seen) ≤ length (now tags)) ⌝ }
-    requires { ⌜ ((p : ℕ) → asSelect (net (leadAt (now codes) (now old) p)) < length (now touched)) ⌝ }
+    requires { ⌜ ((p : ℕ) → (asSelect (net (leadAt (now codes) (now old) p)) < length (now touched)) × (net (leadAt (now codes) (now old) p) < length (now sought))) ⌝ }
     requires { ⌜ Taken (now codes) (now marks) (now seen) (now part) (now tags) m ⌝ }
     ensures taken { λ r. ⌜ Taken (now (codes .entry)) (now (marks .entry)) (now (seen .exit)) (now (part .exit)) (now (tags .exit)) r ⌝ }
-    ensures keeps { λ _. ⌜ Keeps (now (seen .entry)) (now (seen .exit)) × Keeps (now (touched .entry)) (now (touched .exit)) ⌝ }
-    ensures sees { λ _. ⌜ SeesNet (now (codes .entry)) (now (starts .entry)) (now (old .entry)) w (now (seen .exit)) (now (touched .exit)) ⌝ }
+    ensures keeps { λ _. ⌜ Keeps (now (seen .entry)) (now (seen .exit)) × Keeps (now (touched .entry)) (now (touched .exit)) × Keeps (now (sought .entry)) (now (sought .exit)) ⌝ }
+    ensures sees { λ _. ⌜ SeesNet (now (codes .entry)) (now (starts .entry)) (now (old .entry)) w (now (seen .exit)) (now (touched .exit)) (now (sought .exit)) ⌝ }
 {
     let mut n = m;
     let mut k = heads[w] as usize;
@@ -146,6 +165,7 @@ fn take_changed_chain(
             k - 1,
             old,
             touched,
+            sought,
             seen,
             part,
             tags,
@@ -156,7 +176,7 @@ fn take_changed_chain(
     n
 }
 
-// Takes the clauses of which a lead has changed, and touches their leads.
+// Takes the clauses of which a lead has changed, touches their leads, and enters their places by these.
 fn take_all_changed(
     codes: &[u32],
     marks: &[u8],
@@ -165,7 +185,11 @@ fn take_all_changed(
     next: &[u32],
     older: &[u32],
     old: &[u32],
+    tops: &mut [u32],
+    entries: &mut [u32],
+    steps: &mut [u32],
     touched: &mut [u8],
+    sought: &mut [u8],
     seen: &mut [u8],
     part: &mut [u32],
     tags: &mut [u8],
@@ -173,14 +197,19 @@ fn take_all_changed(
     requires { ⌜ Indexed (now codes) (now marks) (now starts) (now heads) (now next) × Ended (now codes) ⌝ }
     requires { ⌜ (length (now older) ≡ length (now old)) × (length (now old) ≤ maxNets) ⌝ }
     requires { ⌜ (length (now marks) ≡ length (now codes)) × (length (now codes) ≤ length (now seen)) × (length (now seen) ≤ length (now part)) × (length (now seen) ≤ length (now tags)) ⌝ }
-    requires { ⌜ ((p : ℕ) → asSelect (net (leadAt (now codes) (now old) p)) < length (now touched)) ⌝ }
+    requires { ⌜ ((p : ℕ) → (asSelect (net (leadAt (now codes) (now old) p)) < length (now touched)) × (net (leadAt (now codes) (now old) p) < length (now sought))) ⌝ }
+    requires { ⌜ (length (now codes) ≤ maxEntries) × ((p : ℕ) → net (leadAt (now codes) (now old) p) ≤ maxNets) ⌝ }
+    requires { ⌜ ByLead (now codes) (now tops) (now entries) (now steps) ⌝ }
     requires { ⌜ Taken (now codes) (now marks) (now seen) (now part) (now tags) 0 ⌝ }
     ensures taken { λ r. ⌜ Taken (now (codes .entry)) (now (marks .entry)) (now (seen .exit)) (now (part .exit)) (now (tags .exit)) r ⌝ }
-    ensures sees { λ _. ⌜ SeesMoved (now (codes .entry)) (now (starts .entry)) (now (older .entry)) (now (old .entry)) (length (now (old .entry))) (now (seen .exit)) (now (touched .exit)) ⌝ }
+    ensures sees { λ _. ⌜ SeesMoved (now (codes .entry)) (now (starts .entry)) (now (older .entry)) (now (old .entry)) (length (now (old .entry))) (now (seen .exit)) (now (touched .exit)) (now (sought .exit)) ⌝ }
+    ensures places { λ _. ⌜ ByLead (now (codes .entry)) (now (tops .exit)) (now (entries .exit)) (now (steps .exit)) ⌝ }
+    ensures entered { λ _. ⌜ (entryCount (now (entries .exit)) < maxEntries → ((q : ℕ) → net (getD (now (codes .entry)) q 0) ≤ length (now (old .entry))) → AllEntered (now (codes .entry)) (now (starts .entry)) (now (older .entry)) (now (entries .entry)) → AllEntered (now (codes .entry)) (now (starts .entry)) (now (old .entry)) (now (entries .exit))) ⌝ }
 {
     let mut n = 0;
     let mut w = next_moved(older, old, 0);
     while w < old.len() {
+        enter_net(codes, starts, heads, next, w + 1, old, tops, entries, steps);
         n = take_changed_chain(
             codes,
             marks,
@@ -190,6 +219,7 @@ fn take_all_changed(
             w + 1,
             old,
             touched,
+            sought,
             seen,
             part,
             tags,
@@ -200,7 +230,7 @@ fn take_all_changed(
     n
 }
 
-// Takes the clause of place q, whose lead is touched, if it is due and not seen.
+// Takes the clause of place q if it is due and not seen.
 fn take_due(
     codes: &[u32],
     marks: &[u8],
@@ -219,6 +249,7 @@ fn take_due(
     requires { ⌜ Taken (now codes) (now marks) (now seen) (now part) (now tags) n ⌝ }
     ensures taken { λ r. ⌜ Taken (now (codes .entry)) (now (marks .entry)) (now (seen .exit)) (now (part .exit)) (now (tags .exit)) r ⌝ }
     ensures sees { λ _. ⌜ Keeps (now (seen .entry)) (now (seen .exit)) × (Due (now (codes .entry)) (now (starts .entry)) (now (old .entry)) (now (touched .entry)) q → HasMark (now (seen .exit)) (startAt (now (starts .entry)) q)) ⌝ }
+    ensures extends { λ r. ⌜ Extends (now (part .entry)) n (now (part .exit)) r ⌝ }
 {
     let s = starts[q] as usize;
     if s % 4 == 0 {
@@ -235,13 +266,14 @@ fn take_due(
     take_clause(codes, marks, b, e, seen, part, tags, n)
 }
 
-// Takes the clauses of net w that are due.
+// Takes the clauses that are due for places whose leads are of net w.
 fn take_due_chain(
     codes: &[u32],
     marks: &[u8],
     starts: &[u32],
-    heads: &[u32],
-    next: &[u32],
+    tops: &[u32],
+    entries: &[u32],
+    steps: &[u32],
     w: usize,
     old: &[u32],
     touched: &[u8],
@@ -250,21 +282,23 @@ fn take_due_chain(
     tags: &mut [u8],
     m: usize,
 ) -> usize
-    requires { ⌜ Indexed (now codes) (now marks) (now starts) (now heads) (now next) × Ended (now codes) × (0 < w) × (w < length (now heads)) ⌝ }
+    requires { ⌜ Listed (now codes) (now marks) (now starts) × Ended (now codes) × (w < length (now tops)) ⌝ }
+    requires { ⌜ ByLead (now codes) (now tops) (now entries) (now steps) × AllEntered (now codes) (now starts) (now old) (now entries) ⌝ }
     requires { ⌜ (length (now marks) ≡ length (now codes)) × (length (now codes) ≤ length (now seen)) × (length (now seen) ≤ length (now part)) × (length (now seen) ≤ length (now tags)) ⌝ }
     requires { ⌜ ((p : ℕ) → asSelect (net (leadAt (now codes) (now old) p)) < length (now touched)) ⌝ }
     requires { ⌜ Taken (now codes) (now marks) (now seen) (now part) (now tags) m ⌝ }
     ensures taken { λ r. ⌜ Taken (now (codes .entry)) (now (marks .entry)) (now (seen .exit)) (now (part .exit)) (now (tags .exit)) r ⌝ }
     ensures sees { λ _. ⌜ Keeps (now (seen .entry)) (now (seen .exit)) × SeesDue (now (codes .entry)) (now (starts .entry)) (now (old .entry)) (now (touched .entry)) w (now (seen .exit)) ⌝ }
+    ensures extends { λ r. ⌜ Extends (now (part .entry)) m (now (part .exit)) r ⌝ }
 {
     let mut n = m;
-    let mut k = heads[w] as usize;
+    let mut k = tops[w] as usize;
     while 0 < k {
         n = take_due(
             codes,
             marks,
             starts,
-            k - 1,
+            entries[k - 1] as usize % MAX_ENTRIES,
             old,
             touched,
             seen,
@@ -272,55 +306,113 @@ fn take_due_chain(
             tags,
             n,
         );
-        k = next[k - 1] as usize;
+        k = steps[k - 1] as usize;
     }
     n
 }
 
-// Takes the clauses that are due.
+// Takes the clauses that are due for the lead at place i of the part, if its net is still to be looked for.
+fn take_sought(
+    codes: &[u32],
+    marks: &[u8],
+    starts: &[u32],
+    tops: &[u32],
+    entries: &[u32],
+    steps: &[u32],
+    i: usize,
+    old: &[u32],
+    touched: &[u8],
+    sought: &mut [u8],
+    seen: &mut [u8],
+    part: &mut [u32],
+    tags: &mut [u8],
+    n: usize,
+) -> usize
+    requires { ⌜ Listed (now codes) (now marks) (now starts) × Ended (now codes) × (length (now sought) ≤ length (now tops)) × (i < length (now part)) ⌝ }
+    requires { ⌜ ByLead (now codes) (now tops) (now entries) (now steps) × AllEntered (now codes) (now starts) (now old) (now entries) ⌝ }
+    requires { ⌜ (length (now marks) ≡ length (now codes)) × (length (now codes) ≤ length (now seen)) × (length (now seen) ≤ length (now part)) × (length (now seen) ≤ length (now tags)) ⌝ }
+    requires { ⌜ ((p : ℕ) → asSelect (net (leadAt (now codes) (now old) p)) < length (now touched)) ⌝ }
+    requires { ⌜ Taken (now codes) (now marks) (now seen) (now part) (now tags) n ⌝ }
+    ensures taken { λ r. ⌜ Taken (now (codes .entry)) (now (marks .entry)) (now (seen .exit)) (now (part .exit)) (now (tags .exit)) r ⌝ }
+    ensures keeps { λ _. ⌜ Keeps (now (seen .entry)) (now (seen .exit)) × Keeps (now (sought .exit)) (now (sought .entry)) ⌝ }
+    ensures sees { λ _. ⌜ ((w : ℕ) → HasMark (now (sought .entry)) w → HasMark (now (sought .exit)) w ⊎ SeesDue (now (codes .entry)) (now (starts .entry)) (now (old .entry)) (now (touched .entry)) w (now (seen .exit))) ⌝ }
+    ensures done { λ _. ⌜ ¬ HasMark (now (sought .exit)) (net (leadAt (now (part .entry)) (now (old .entry)) i)) ⌝ }
+    ensures extends { λ r. ⌜ Extends (now (part .entry)) n (now (part .exit)) r ⌝ }
+{
+    let w = lead_net(part, old, i);
+    if sought.len() <= w {
+        return n;
+    }
+    if sought[w] == 0 {
+        return n;
+    }
+    sought[w] = 0;
+    take_due_chain(
+        codes,
+        marks,
+        starts,
+        tops,
+        entries,
+        steps,
+        w,
+        old,
+        touched,
+        seen,
+        part,
+        tags,
+        n,
+    )
+}
+
+// Takes the clauses that are due for the leads of the part's first m entries.
 fn take_all_due(
     codes: &[u32],
     marks: &[u8],
     starts: &[u32],
-    heads: &[u32],
-    next: &[u32],
+    tops: &[u32],
+    entries: &[u32],
+    steps: &[u32],
     old: &[u32],
     touched: &[u8],
+    sought: &mut [u8],
     seen: &mut [u8],
     part: &mut [u32],
     tags: &mut [u8],
     m: usize,
 ) -> usize
-    requires { ⌜ Indexed (now codes) (now marks) (now starts) (now heads) (now next) × Ended (now codes) × (length (now old) ≤ maxNets) ⌝ }
+    requires { ⌜ Listed (now codes) (now marks) (now starts) × Ended (now codes) × (length (now sought) ≤ length (now tops)) × (m ≤ length (now part)) ⌝ }
+    requires { ⌜ ByLead (now codes) (now tops) (now entries) (now steps) × AllEntered (now codes) (now starts) (now old) (now entries) ⌝ }
     requires { ⌜ (length (now marks) ≡ length (now codes)) × (length (now codes) ≤ length (now seen)) × (length (now seen) ≤ length (now part)) × (length (now seen) ≤ length (now tags)) ⌝ }
-    requires { ⌜ ((p : ℕ) → asSelect (net (leadAt (now codes) (now old) p)) < length (now touched)) × ((w : ℕ) → net (getD (now old) w 0) < length (now touched)) ⌝ }
+    requires { ⌜ ((p : ℕ) → asSelect (net (leadAt (now codes) (now old) p)) < length (now touched)) ⌝ }
     requires { ⌜ Taken (now codes) (now marks) (now seen) (now part) (now tags) m ⌝ }
     ensures taken { λ r. ⌜ Taken (now (codes .entry)) (now (marks .entry)) (now (seen .exit)) (now (part .exit)) (now (tags .exit)) r ⌝ }
-    ensures sees { λ _. ⌜ Keeps (now (seen .entry)) (now (seen .exit)) × SeesTouched (now (codes .entry)) (now (starts .entry)) (now (old .entry)) (now (touched .entry)) (length (now (old .entry))) (now (seen .exit)) ⌝ }
+    ensures sees { λ _. ⌜ Keeps (now (seen .entry)) (now (seen .exit)) × SeesSought (now (codes .entry)) (now (starts .entry)) (now (old .entry)) (now (touched .entry)) (now (sought .entry)) (now (part .entry)) m (now (seen .exit)) ⌝ }
 {
     let mut n = m;
-    let mut w = next_touched(old, touched, 0);
-    while w < old.len() {
-        n = take_due_chain(
+    let mut i = 0;
+    while i < m {
+        n = take_sought(
             codes,
             marks,
             starts,
-            heads,
-            next,
-            w + 1,
+            tops,
+            entries,
+            steps,
+            i,
             old,
             touched,
+            sought,
             seen,
             part,
             tags,
             n,
         );
-        w = next_touched(old, touched, w + 1);
+        i += 1;
     }
     n
 }
 
-// Copies the active clauses and their marks into a row of their own, and answers how long it is; `touched` is for the nets, `seen` for the places.
+// Copies the active clauses and their marks into a row of their own, and answers how long it is; the places by their leads, which are those of the older leads, become those of the old ones. `touched` and `sought` are for the nets, `seen` for the places.
 pub fn take_active(
     codes: &[u32],
     marks: &[u8],
@@ -329,21 +421,28 @@ pub fn take_active(
     next: &[u32],
     older: &[u32],
     old: &[u32],
+    tops: &mut [u32],
+    entries: &mut [u32],
+    steps: &mut [u32],
     touched: &mut [u8],
+    sought: &mut [u8],
     seen: &mut [u8],
     part: &mut [u32],
     tags: &mut [u8],
 ) -> usize
-    requires { ⌜ Ended (now codes) × (length (now marks) ≡ length (now codes)) ⌝ }
+    requires { ⌜ Ended (now codes) × (length (now marks) ≡ length (now codes)) × (length (now codes) ≤ maxEntries) ⌝ }
     requires { ⌜ Indexed (now codes) (now marks) (now starts) (now heads) (now next) ⌝ }
     requires { ⌜ ((q : ℕ) → net (getD (now codes) q 0) ≤ length (now old)) × LeadRow (now old) ⌝ }
-    requires { ⌜ (length (now older) ≡ length (now old)) × (length (now old) ≤ maxNets) × (2 * maxNets + 2 ≤ length (now touched)) ⌝ }
+    requires { ⌜ (length (now older) ≡ length (now old)) × (length (now old) ≤ maxNets) × (2 * maxNets + 2 ≤ length (now touched)) × (length (now sought) ≡ maxNets + 1) ⌝ }
     requires { ⌜ (length (now codes) ≤ length (now seen)) × (length (now seen) ≤ length (now part)) × (length (now seen) ≤ length (now tags)) ⌝ }
+    requires { ⌜ ByLead (now codes) (now tops) (now entries) (now steps) × AllEntered (now codes) (now starts) (now older) (now entries) ⌝ }
     ensures { λ r. ⌜ r ≤ length (now (seen .entry)) ⌝ }
     ensures { λ r. ⌜ Part (now (codes .entry)) (now (marks .entry)) (take r (now (part .exit))) (take r (now (tags .exit))) ⌝ }
     ensures { λ r. ⌜ HoldsActive (now (codes .entry)) (now (marks .entry)) (now (older .entry)) (now (old .entry)) (take r (now (part .exit))) (take r (now (tags .exit))) ⌝ }
+    ensures { λ _. ⌜ ByLead (now (codes .entry)) (now (tops .exit)) (now (entries .exit)) (now (steps .exit)) × AllEntered (now (codes .entry)) (now (starts .entry)) (now (old .entry)) (now (entries .exit)) ⌝ }
 {
     clear(touched);
+    clear(sought);
     clear(seen);
     let n = take_all_changed(
         codes,
@@ -353,19 +452,26 @@ pub fn take_active(
         next,
         older,
         old,
+        tops,
+        entries,
+        steps,
         touched,
+        sought,
         seen,
         part,
         tags,
     );
+    enter_missing(codes, starts, old, tops, entries, steps);
     take_all_due(
         codes,
         marks,
         starts,
-        heads,
-        next,
+        tops,
+        entries,
+        steps,
         old,
         touched,
+        sought,
         seen,
         part,
         tags,

@@ -88,6 +88,28 @@ fn counts(on: bool, x: u32) -> bool
     false
 }
 
+// Touches net n for a tie, and puts it up to be looked for, unless it is `skip`.
+fn touch_tied(touched: &mut [u8], sought: &mut [u8], n: usize, skip: usize)
+    requires { ⌜ (asSelect n < length (now touched)) × (n < length (now sought)) ⌝ }
+    ensures { λ _. ⌜ Keeps (now (touched .entry)) (now (touched .exit)) × Keeps (now (sought .entry)) (now (sought .exit)) ⌝ }
+    ensures { λ _. ⌜ HasMark (now (touched .exit)) n × (n ≢ skip → HasMark (now (sought .exit)) n) ⌝ }
+{
+    touch_net(touched, n, false);
+    if n != skip {
+        sought[n] = 1;
+    }
+}
+
+// Touches net n as a select, and puts it up to be looked for.
+fn touch_select(touched: &mut [u8], sought: &mut [u8], n: usize)
+    requires { ⌜ (asSelect n < length (now touched)) × (n < length (now sought)) ⌝ }
+    ensures { λ _. ⌜ Keeps (now (touched .entry)) (now (touched .exit)) × Keeps (now (sought .entry)) (now (sought .exit)) ⌝ }
+    ensures { λ _. ⌜ HasMark (now (touched .exit)) n × HasMark (now (touched .exit)) (asSelect n) × HasMark (now (sought .exit)) n ⌝ }
+{
+    touch_net(touched, n, true);
+    sought[n] = 1;
+}
+
 // Touches the lead at place q: as a select if these count and it is one, and else if ties count and a gate ties it.
 fn touch_place(
     codes: &[u32],
@@ -95,20 +117,23 @@ fn touch_place(
     q: usize,
     ties: bool,
     sides: bool,
+    skip: usize,
     old: &[u32],
     touched: &mut [u8],
+    sought: &mut [u8],
 )
     requires { ⌜ (q < length (now codes)) × (q < length (now starts)) ⌝ }
-    requires { ⌜ ((p : ℕ) → asSelect (net (leadAt (now codes) (now old) p)) < length (now touched)) ⌝ }
-    ensures { λ _. ⌜ Keeps (now (touched .entry)) (now (touched .exit)) × TouchedBy ties sides (tieAt (now (starts .entry)) q) (now (touched .exit)) (net (leadAt (now (codes .entry)) (now (old .entry)) q)) ⌝ }
+    requires { ⌜ ((p : ℕ) → (asSelect (net (leadAt (now codes) (now old) p)) < length (now touched)) × (net (leadAt (now codes) (now old) p) < length (now sought))) ⌝ }
+    ensures { λ _. ⌜ Keeps (now (touched .entry)) (now (touched .exit)) × Keeps (now (sought .entry)) (now (sought .exit)) ⌝ }
+    ensures { λ _. ⌜ TouchedBy ties sides (tieAt (now (starts .entry)) q) skip (now (touched .exit)) (now (sought .exit)) (net (leadAt (now (codes .entry)) (now (old .entry)) q)) ⌝ }
 {
     let tie = starts[q] % 8;
     if counts(sides, tie / 2) {
-        touch_net(touched, lead_net(codes, old, q), true);
+        touch_select(touched, sought, lead_net(codes, old, q));
         return;
     }
     if counts(ties, tie) {
-        touch_net(touched, lead_net(codes, old, q), false);
+        touch_tied(touched, sought, lead_net(codes, old, q), skip);
     }
 }
 
@@ -120,18 +145,36 @@ pub fn touch(
     e: usize,
     ties: bool,
     sides: bool,
+    skip: usize,
     old: &[u32],
     touched: &mut [u8],
+    sought: &mut [u8],
 )
     requires { ⌜ (e ≤ length (now codes)) × (e ≤ length (now starts)) ⌝ }
-    requires { ⌜ ((p : ℕ) → asSelect (net (leadAt (now codes) (now old) p)) < length (now touched)) ⌝ }
-    ensures { λ _. ⌜ Keeps (now (touched .entry)) (now (touched .exit)) × Touched (now (codes .entry)) (now (starts .entry)) (now (old .entry)) ties sides (now (touched .exit)) b e ⌝ }
+    requires { ⌜ ((p : ℕ) → (asSelect (net (leadAt (now codes) (now old) p)) < length (now touched)) × (net (leadAt (now codes) (now old) p) < length (now sought))) ⌝ }
+    ensures { λ _. ⌜ Keeps (now (touched .entry)) (now (touched .exit)) × Keeps (now (sought .entry)) (now (sought .exit)) ⌝ }
+    ensures { λ _. ⌜ Touched (now (codes .entry)) (now (starts .entry)) (now (old .entry)) ties sides skip (now (touched .exit)) (now (sought .exit)) b e ⌝ }
 {
     let mut q = b;
     while q < e {
-        touch_place(codes, starts, q, ties, sides, old, touched);
+        touch_place(codes, starts, q, ties, sides, skip, old, touched, sought);
         q += 1;
     }
+}
+
+// The net of the first lead from place b up to e that a gate ties and that is of another net than n; 0 where there is none.
+pub fn other_tied(codes: &[u32], starts: &[u32], b: usize, e: usize, old: &[u32], n: usize) -> usize
+    requires { ⌜ (e ≤ length (now codes)) × (e ≤ length (now starts)) ⌝ }
+{
+    let mut q = b;
+    while q < e {
+        let m = lead_net(codes, old, q);
+        if counts(m != n, starts[q]) {
+            return m;
+        }
+        q += 1;
+    }
+    0
 }
 
 // Whether it tells nothing that the lead at place q has changed: the place is nothing to its gates, and the lead is no constant.
@@ -159,24 +202,8 @@ fn is_touched(touched: &[u8], skip: usize, n: usize) -> bool
     touched[n] != 0
 }
 
-// The first net from place `from` of the leads on whose lead is touched, by its place; the number of nets where there is none.
-pub fn next_touched(old: &[u32], touched: &[u8], from: usize) -> usize
-    requires { ⌜ from ≤ length (now old) ⌝ }
-    requires { ⌜ ((w : ℕ) → net (getD (now old) w 0) < length (now touched)) ⌝ }
-    ensures { λ r. ⌜ First (λ w. isTouched (now (touched .entry)) 0 (net (getD (now (old .entry)) w 0))) from (length (now (old .entry))) r ⌝ }
-{
-    let mut w = from;
-    while w < old.len() {
-        if is_touched(touched, 0, (old[w] / 2) as usize) {
-            return w;
-        }
-        w += 1;
-    }
-    w
-}
-
 // The net of the lead at place q.
-fn lead_net(codes: &[u32], old: &[u32], q: usize) -> usize
+pub fn lead_net(codes: &[u32], old: &[u32], q: usize) -> usize
     requires { ⌜ q < length (now codes) ⌝ }
     ensures { λ r. ⌜ r ≡ net (leadAt (now (codes .entry)) (now (old .entry)) q) ⌝ }
 {

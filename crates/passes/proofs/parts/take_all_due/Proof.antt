@@ -1,82 +1,83 @@
 -- `passes::parts::take_all_due` meets its contract.
 -- Assumes nothing.
-use mathlib.Core.Path.{_≡_, refl}
-use Prim.Native.Nat.{_+_, _-_, _≤_}
+use mathlib.Core.Path.{_≡_, refl, sym, _∙_, ap, subst}
+use mathlib.Core.Logic.{_⊎_, inl, inr, ⊎-elim}
+use Prim.Native.Nat.{ℕ, _-_, _≤_, _<_}
 use native.Mathlib.Omega.{arith}
 use lib.ListN.{length, getD}
 use Rattle.clauses.specs.Code.{net}
-use Rattle.passes.specs.Taking.{isTouched, Keeps, SeesDue, SeesTouched, Taken}
-use Rattle.passes.proofs.Taking.{nets-first, nets-more}
+use Rattle.rules.specs.Answer.{leadOf}
+use Rattle.passes.specs.Passing.{leadAt}
+use Rattle.passes.specs.Taking.{HasMark, Keeps, SeesDue, Extends, Taken}
+use Rattle.passes.proofs.Indexing.{places-more}
+use Rattle.passes.proofs.Appending.{extends-none, extends-more}
 use borrow.Author.Needs.{needs}
 use Rattle.passes.proofs.parts.take_all_due.Statement.{statement}
 use Rattle.passes.proofs.parts.take_all_due.Tie as tie
 
 abbrev Inv-loop : tie.InvT-loop
-Inv-loop codes marks starts heads next old touched seen₀ part₀ tags₀ m n₀ w₀ seen part tags n w =
-    SeesTouched codes starts old touched w seen × Keeps seen₀ seen × Taken codes marks seen part tags n × (length seen ≡ length seen₀) × (length part ≡ length part₀)
-    × (length tags ≡ length tags₀) × (w ≤ length old)
+Inv-loop codes marks starts tops entries steps old touched sought₀ seen₀ part₀ tags₀ m n₀ i₀ sought seen part tags n i =
+    ((w : ℕ) → HasMark sought₀ w → HasMark sought w ⊎ SeesDue codes starts old touched w seen) × ((j : ℕ) → 0 ≤ j → j < i → ¬ HasMark sought (net (leadAt part₀ old j)))
+    × Keeps seen₀ seen × Taken codes marks seen part tags n × Extends part₀ m part n × (length sought ≡ length sought₀) × (length seen ≡ length seen₀)
+    × (length part ≡ length part₀) × (length tags ≡ length tags₀)
 
 abbrev μ-loop : tie.MeasureT-loop
-μ-loop codes marks starts heads next old touched seen₀ part₀ tags₀ m n₀ w₀ seen part tags n w = length old - w
-
-next-touched-requires : tie.Need-next-touched-requires Inv-loop μ-loop
-next-touched-requires c κs =
-    (omega arith, c .before .before .before .before .before .before .before .before .before .before .pre .1 .1 .0 .1)
+μ-loop codes marks starts tops entries steps old touched sought₀ seen₀ part₀ tags₀ m n₀ i₀ sought seen part tags n i = m - i
 
 loop-holds : tie.Need-loop-holds Inv-loop μ-loop
-loop-holds c =
-    let a = c .before .before .before .before .before .before .before .before .before .before .before .args in
-    let p = c .before .before .before .before .before .before .before .before .before .before .before .pre in
-    let f = c .next-touched .ensures in
-    (nets-first (λ w. isTouched (a .touched .now) 0 (net (getD (a .old .now) w 0))) (λ x. SeesDue (a .codes .now) (a .starts .now) (a .old .now) (a .touched .now) (x + 1) (a .seen .now)) _ _ f, λ x h. h, p .1 .1 .1, refl, refl, refl, f .high)
+loop-holds c = (λ w h. inl h, λ j z l. absurd (omega arith), λ x h. h, c .before .before .before .before .before .before .before .before .before .before .before .before .pre .1 .1 .1 .1, extends-none _ _, refl, refl, refl, refl)
 
-add-take-due-chain : tie.Need-add-take-due-chain Inv-loop μ-loop
-add-take-due-chain c = search needs
+take-sought-requires : tie.Need-take-sought-requires Inv-loop μ-loop
+take-sought-requires c κs =
+    let p = c .before .before .before .before .before .before .before .before .before .before .before .before .before .before .before .before .before .before .pre in
+    let v = c .before .before .before .before .before .loop .inv in (
+      (p .0 .0, p .0 .1, omega (arith, p .0 .2, v .5), omega (arith, c .before .before .before .before .loop-test .taken, p .0 .3, v .7)),
+      (p .1 .0, ((p .1 .1 .0 .0, omega (arith, p .1 .1 .0 .1, v .6), omega (arith, p .1 .1 .0 .2, v .6, v .7), omega (arith, p .1 .1 .0 .3, v .6, v .8)), (p .1 .1 .1 .0, v .3))),
+    )
 
-take-due-chain-requires : tie.Need-take-due-chain-requires Inv-loop μ-loop
-take-due-chain-requires c κs =
-    let p = c .before .before .before .before .before .before .before .before .before .before .before .before .before .before .before .before .pre in
-    let i = c .before .before .before .before .loop .inv in
-    ((p .0 .0, p .0 .1, omega arith, omega (arith, p .0 .0 .head-room)), ((p .1 .0 .0, omega arith, omega arith, omega arith), (p .1 .1 .0 .0, i .2)))
-
-add-next-touched : tie.Need-add-next-touched Inv-loop μ-loop
-add-next-touched c = search needs
-
-next-touched-requires-2 : tie.Need-next-touched-requires-2 Inv-loop μ-loop
-next-touched-requires-2 c κs =
-    (omega arith, c .before .before .before .before .before .before .before .before .before .before .before .before .before .before .before .before .before .before .before .before .before .before .before .pre .1 .1 .0 .1)
+add-i : tie.Need-add-i Inv-loop μ-loop
+add-i c = search needs
 
 loop-less : tie.Need-loop-less Inv-loop μ-loop
-loop-less c = omega (arith, c .next-touched2 .ensures .low)
+loop-less c = search needs
 
 loop-again : tie.Need-loop-again Inv-loop μ-loop
 loop-again c =
-    let a = c .before .before .before .before .before .before .before .before .before .before .before .before .before .before .before .before .before .before .before .before .before .before .before .before .args in
-    let l = c .before .before .before .before .before .before .before .before .before .before .before .before .loop in
-    let y = c .before .before .before .before .before .before .before .take-due-chain in
-    let f = c .next-touched2 .ensures in
-    let seen = y .last .1 .1 .1 .1 .1 .1 .1 .1 .0 in (
-      nets-more (λ w. isTouched (a .touched .now) 0 (net (getD (a .old .now) w 0))) (λ x. SeesDue (a .codes .now) (a .starts .now) (a .old .now) (a .touched .now) (x + 1) (l .seen))
-          (λ x. SeesDue (a .codes .now) (a .starts .now) (a .old .now) (a .touched .now) (x + 1) seen) (l .w) _ _ (λ x s q m e d. y .ensures .1 .0 _ (s q m e d)) (l .inv .0) (y .ensures .1 .1) f,
-      λ x m. y .ensures .1 .0 x (l .inv .1 x m),
+    let a = c .before .before .before .before .before .before .before .before .before .before .before .before .before .before .before .before .before .before .before .before .before .before .before .before .before .before .before .args in
+    let l = c .before .before .before .before .before .before .before .before .before .before .before .before .before .before .loop in
+    let v = l .inv in
+    let y = c .before .before .before .before .before .before .before .before .take-sought in
+    let sought = y .last .1 .1 .1 .1 .1 .1 .1 .1 .1 .0 in
+    let e = y .ensures .1 in
+    let code : leadAt (l .part) (a .old .now) (l .i) ≡ leadAt (a .part .now) (a .old .now) (l .i) = ap (leadOf (a .old .now)) (v .4 .stays (l .i) (c .before .before .before .before .before .before .before .before .before .before .before .before .before .loop-test .taken)) in (
+      λ w h. ⊎-elim (λ k. e .1 .0 w k) (λ d. inr (λ q i s n u. e .0 .0 _ (d q i s n u))) (v .0 w h),
+      places-more (λ j. ¬ HasMark sought (net (leadAt (a .part .now) (a .old .now) j))) 0 (l .i) (λ j z h m. v .1 j z h (e .0 .1 _ m))
+          (subst (λ (x : ℕ). ¬ HasMark sought (net x)) code (e .1 .1 .0)),
+      λ x m. e .0 .0 x (v .2 x m),
       y .ensures .0,
-      omega arith,
-      omega arith,
-      omega arith,
-      f .high,
+      extends-more (v .4) (e .1 .1 .1),
+      y .kept .1 .1 .1 .1 .1 .1 .1 .1 .1 .0 ∙ v .5,
+      y .kept .1 .1 .1 .1 .1 .1 .1 .1 .1 .1 .0 ∙ v .6,
+      y .kept .1 .1 .1 .1 .1 .1 .1 .1 .1 .1 .1 .0 ∙ v .7,
+      y .kept .1 .1 .1 .1 .1 .1 .1 .1 .1 .1 .1 .1 .0 ∙ v .8,
     )
 
 same-length : tie.Need-same-length Inv-loop μ-loop
-same-length c = search needs
+same-length c = c .before .loop .inv .5
 
 same-length-2 : tie.Need-same-length-2 Inv-loop μ-loop
-same-length-2 c = search needs
+same-length-2 c = c .before .loop .inv .6
 
 same-length-3 : tie.Need-same-length-3 Inv-loop μ-loop
-same-length-3 c = search needs
+same-length-3 c = c .before .loop .inv .7
+
+same-length-4 : tie.Need-same-length-4 Inv-loop μ-loop
+same-length-4 c = c .before .loop .inv .8
 
 returns : tie.Need-returns Inv-loop μ-loop
-returns c = let i = c .before .loop .inv in (i .2, (i .1, λ x h. i .0 x (omega (arith, c .loop-test .left))))
+returns c =
+    let v = c .before .loop .inv in
+    (v .3, (v .2, λ i h m. ⊎-elim (λ k. absurd (v .1 i (omega arith) (omega (arith, c .loop-test .left)) k)) (λ d. d) (v .0 _ m)))
 
 pub take-all-due-spec : {M : Type 1} → statement M
 take-all-due-spec =
@@ -84,15 +85,13 @@ take-all-due-spec =
     (tie.spec
     Inv-loop
     μ-loop
-    next-touched-requires
     loop-holds
-    add-take-due-chain
-    take-due-chain-requires
-    add-next-touched
-    next-touched-requires-2
+    take-sought-requires
+    add-i
     loop-less
     loop-again
     same-length
     same-length-2
     same-length-3
+    same-length-4
     returns)

@@ -1,7 +1,7 @@
 -- `passes::parts::take_clause` meets its contract.
 -- Assumes nothing.
 use native.Mathlib.Omega.{arith}
-use Rattle.passes.proofs.Appending.{unseen, took-seen, took-clause, seen-room, taken-copied}
+use Rattle.passes.proofs.Appending.{extends-none, unseen, took-seen, took-clause, seen-room, taken-copied}
 use borrow.Author.Needs.{needs}
 use Rattle.passes.proofs.parts.take_clause.Statement.{statement}
 use Rattle.passes.proofs.parts.take_clause.Tie as tie
@@ -10,7 +10,7 @@ slice-read-if1 : tie.Need-slice-read-if1
 slice-read-if1 c = search needs
 
 returns : tie.Need-returns
-returns c = (c .before .before .before .before .before .before .before .pre .1 .1, took-seen _ _ _ (c .if1 .taken))
+returns c = (c .before .before .before .before .before .before .before .pre .1 .1, (took-seen _ _ _ (c .if1 .taken), extends-none _ _))
 
 add-k : tie.Need-add-k
 add-k c = search needs
@@ -48,7 +48,10 @@ returns-2 c =
     let r = seen-room _ _ _ _ _ _ _ (p .1 .1) (p .0 .0) _ (omega arith) _ (c .before .before .before .before .before .before .before .before .before .see .ensures) in
     let y = c .before .before .before .before .copy in (
       taken-copied _ _ _ _ _ _ _ (p .1 .1) (p .0 .0) _ (omega arith) _ (c .before .before .before .before .before .before .before .before .before .see .ensures) _ _ (omega (arith, r)) (omega (arith, r)) (omega arith) (omega arith) (y .ensures .0) (y .ensures .1),
-      took-clause _ _ _ _ _ _ _ (p .1 .1) (p .0 .0) _ (omega arith) _ (c .before .before .before .before .before .before .before .before .before .see .ensures),
+      (
+        took-clause _ _ _ _ _ _ _ (p .1 .1) (p .0 .0) _ (omega arith) _ (c .before .before .before .before .before .before .before .before .before .see .ensures),
+        record { more = omega arith; stays = y .ensures .0 .stays },
+      ),
     )
 
 pub take-clause-spec : {M : Type 1} → statement M

@@ -8,6 +8,7 @@ use borrow.Author.Tests.{not-true}
 use Rattle.passes.specs.Indexing.{startAt}
 use Rattle.passes.proofs.Indexing.{start-of, end-of}
 use Rattle.passes.proofs.Taking.{due-tied}
+use Rattle.passes.proofs.Appending.{extends-none}
 use borrow.Author.Needs.{needs}
 use Rattle.passes.proofs.parts.take_due.Statement.{statement}
 use Rattle.passes.proofs.parts.take_due.Tie as tie
@@ -24,14 +25,14 @@ cast-s c =
 
 returns : tie.Need-returns
 returns c =
-    (c .before .before .before .before .before .before .before .before .before .before .pre .1 .1 .1, (λ w h. h, λ d. absurd (due-tied d (c .if1 .taken))))
+    (c .before .before .before .before .before .before .before .before .before .before .pre .1 .1 .1, ((λ w h. h, λ d. absurd (due-tied d (c .if1 .taken))), extends-none _ _))
 
 slice-read-if2 : tie.Need-slice-read-if2
 slice-read-if2 c =
     omega (arith, start-of _ _ _ (c .before .before .before .before .before .before .before .before .before .before .before .pre .0 .0) _ (c .before .before .before .before .before .before .before .before .before .before .before .pre .0 .2) (c .before .before .before .before .before .before .before .before .before .before .before .pre .0 .3) .start .inside, c .before .before .before .before .before .before .before .before .before .before .before .pre .1 .0 .1)
 
 returns-2 : tie.Need-returns-2
-returns-2 c = search needs
+returns-2 c = (c .before .before .before .before .before .before .before .before .before .before .before .before .pre .1 .1 .1, ((λ w h. h, λ d. c .if2 .taken), extends-none _ _))
 
 add-e : tie.Need-add-e
 add-e c =
@@ -58,7 +59,7 @@ is-due-requires c κs =
 
 returns-3 : tie.Need-returns-3
 returns-3 c =
-    (c .before .before .before .before .before .before .before .before .before .before .before .before .before .before .before .pre .1 .1 .1, (λ w h. h, λ d. absurd (true≢false (sym (c .before .is-due .ensures d) ∙ not-true (c .before .is-due .result) (c .if3 .taken)))))
+    (c .before .before .before .before .before .before .before .before .before .before .before .before .before .before .before .pre .1 .1 .1, ((λ w h. h, λ d. absurd (true≢false (sym (c .before .is-due .ensures d) ∙ not-true (c .before .is-due .result) (c .if3 .taken)))), extends-none _ _))
 
 take-clause-requires : tie.Need-take-clause-requires
 take-clause-requires c κs =
@@ -77,7 +78,7 @@ same-length-3 : tie.Need-same-length-3
 same-length-3 c = search needs
 
 returns-4 : tie.Need-returns-4
-returns-4 c = search needs
+returns-4 c = let y = c .before .before .before .before .before .before .take-clause .ensures in (y .0, ((y .1 .0 .keeps, λ d. y .1 .0 .here), y .1 .1))
 
 pub take-due-spec : {M : Type 1} → statement M
 take-due-spec =

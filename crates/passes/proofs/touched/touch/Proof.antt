@@ -15,18 +15,20 @@ use Rattle.passes.proofs.touched.touch.Statement.{statement}
 use Rattle.passes.proofs.touched.touch.Tie as tie
 
 abbrev Inv-loop : tie.InvT-loop
-Inv-loop codes starts b e ties sides old touched₀ q₀ touched q =
-    Keeps touched₀ touched × Touched codes starts old ties sides touched b q × (length touched ≡ length touched₀)
+Inv-loop codes starts b e ties sides skip old touched₀ sought₀ q₀ touched sought q =
+    Keeps touched₀ touched × Keeps sought₀ sought × Touched codes starts old ties sides skip touched sought b q × (length touched ≡ length touched₀) × (length sought ≡ length sought₀)
 
 abbrev μ-loop : tie.MeasureT-loop
-μ-loop codes starts b e ties sides old touched₀ q₀ touched q = e - q
+μ-loop codes starts b e ties sides skip old touched₀ sought₀ q₀ touched sought q = e - q
 
 loop-holds : tie.Need-loop-holds Inv-loop μ-loop
-loop-holds c = (λ w h. h, λ q l h. absurd (omega arith), refl)
+loop-holds c = (λ w h. h, λ w h. h, λ q l h. absurd (omega arith), refl, refl)
 
 touch-place-requires : tie.Need-touch-place-requires Inv-loop μ-loop
 touch-place-requires c κs =
-    ((omega (arith, c .before .loop-test .taken, c .before .before .before .before .before .before .before .pre .0), omega (arith, c .before .loop-test .taken, c .before .before .before .before .before .before .before .pre .0)), λ p. omega (arith, c .before .before .before .before .before .before .before .pre .1 p, c .before .before .loop .inv .2))
+    let p = c .before .before .before .before .before .before .before .before .before .pre in
+    let i = c .before .before .before .loop .inv in
+    ((omega (arith, c .before .before .loop-test .taken, p .0), omega (arith, c .before .before .loop-test .taken, p .0)), λ k. (omega (arith, p .1 k .0, i .3), omega (arith, p .1 k .1, i .4)))
 
 add-q : tie.Need-add-q Inv-loop μ-loop
 add-q c = search needs
@@ -36,20 +38,28 @@ loop-less c = search needs
 
 loop-again : tie.Need-loop-again Inv-loop μ-loop
 loop-again c =
-    let a = c .before .before .before .before .before .before .before .before .before .before .args in
-    let l = c .before .before .before .before .before .loop in
-    let y = c .before .before .touch-place in (
-      λ x m. y .ensures .0 x (l .inv .0 x m),
-      places-more (λ k. TouchedBy (a .ties) (a .sides) (tieAt (a .starts .now) k) (y .last .1 .1 .1 .1 .1 .1 .0) (net (leadAt (a .codes .now) (a .old .now) k))) (a .b) (l .q)
-          (λ k i s. touched-keeps (y .ensures .0) (l .inv .1 k i s)) (y .ensures .1),
-      y .kept .1 .1 .1 .1 .1 .1 .0 ∙ l .inv .2,
+    let a = c .before .before .before .before .before .before .before .before .before .before .before .before .before .before .args in
+    let l = c .before .before .before .before .before .before .before .before .loop in
+    let y = c .before .before .before .before .touch-place in
+    let touched = y .last .1 .1 .1 .1 .1 .1 .1 .0 in
+    let sought = y .last .1 .1 .1 .1 .1 .1 .1 .1 .0 in
+    let keeps = y .ensures .0 in (
+      λ x m. keeps .0 x (l .inv .0 x m),
+      λ x m. keeps .1 x (l .inv .1 x m),
+      places-more (λ k. TouchedBy (a .ties) (a .sides) (tieAt (a .starts .now) k) (a .skip) touched sought (net (leadAt (a .codes .now) (a .old .now) k))) (a .b) (l .q)
+          (λ k i s. touched-keeps (keeps .0) (keeps .1) (l .inv .2 k i s)) (y .ensures .1),
+      y .kept .1 .1 .1 .1 .1 .1 .1 .0 ∙ l .inv .3,
+      y .kept .1 .1 .1 .1 .1 .1 .1 .1 .0 ∙ l .inv .4,
     )
 
 same-length : tie.Need-same-length Inv-loop μ-loop
 same-length c = search needs
 
+same-length-2 : tie.Need-same-length-2 Inv-loop μ-loop
+same-length-2 c = search needs
+
 returns : tie.Need-returns Inv-loop μ-loop
-returns c = (c .before .loop .inv .0, λ q l h. c .before .loop .inv .1 q l (omega (arith, c .loop-test .left)))
+returns c = let i = c .before .loop .inv in ((i .0, i .1), λ q l h. i .2 q l (omega (arith, c .loop-test .left)))
 
 pub touch-spec : {M : Type 1} → statement M
 touch-spec =
@@ -63,4 +73,5 @@ touch-spec =
     loop-less
     loop-again
     same-length
+    same-length-2
     returns)

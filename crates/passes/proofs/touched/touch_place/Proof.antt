@@ -1,6 +1,6 @@
 -- `passes::touched::touch_place` meets its contract.
 -- Assumes nothing.
-use mathlib.Core.Path.{refl, sym, _∙_}
+use mathlib.Core.Path.{sym, _∙_}
 use mathlib.Core.Bool.{true≢false}
 use Rattle.passes.proofs.Taking.{counted}
 use borrow.Author.Needs.{needs}
@@ -19,18 +19,20 @@ counts-requires c κs = search needs
 lead-net-requires : tie.Need-lead-net-requires
 lead-net-requires c κs = search needs
 
-touch-net-requires : tie.Need-touch-net-requires
-touch-net-requires c κs =
-    rw (c .lead-net .ensures) (c .before .before .before .before .before .before .before .before .before .pre .1 (c .before .before .before .before .before .before .before .before .before .args .q))
+touch-select-requires : tie.Need-touch-select-requires
+touch-select-requires c κs = rw (c .lead-net .ensures) (c .before .before .before .before .before .before .before .before .before .before .before .pre .1 (c .before .before .before .before .before .before .before .before .before .before .before .args .q))
 
 same-length : tie.Need-same-length
 same-length c = search needs
 
+same-length-2 : tie.Need-same-length-2
+same-length-2 c = search needs
+
 returns : tie.Need-returns
 returns c =
-    let y = c .before .before .touch-net in
-    let here = rw (c .before .before .before .lead-net .ensures) at (y .ensures .0 .1) in
-    (y .ensures .0 .0, record { tied = λ k h. here; select = λ k h. (here, rw (c .before .before .before .lead-net .ensures) at (y .ensures .1 refl)) })
+    let y = c .before .before .before .before .touch-select .ensures in
+    let here = rw (c .before .before .before .before .before .lead-net .ensures) at (y .1) in
+    (y .0, record { tied = λ k h. (here .0, λ n. here .2); select = λ k h. here })
 
 counts-requires-2 : tie.Need-counts-requires-2
 counts-requires-2 c κs = search needs
@@ -38,26 +40,29 @@ counts-requires-2 c κs = search needs
 lead-net-requires-2 : tie.Need-lead-net-requires-2
 lead-net-requires-2 c κs = search needs
 
-touch-net-requires-2 : tie.Need-touch-net-requires-2
-touch-net-requires-2 c κs =
-    rw (c .lead-net2 .ensures) (c .before .before .before .before .before .before .before .before .before .before .before .pre .1 (c .before .before .before .before .before .before .before .before .before .before .before .args .q))
+touch-tied-requires : tie.Need-touch-tied-requires
+touch-tied-requires c κs = rw (c .lead-net2 .ensures) (c .before .before .before .before .before .before .before .before .before .before .before .before .before .pre .1 (c .before .before .before .before .before .before .before .before .before .before .before .before .before .args .q))
 
-same-length-2 : tie.Need-same-length-2
-same-length-2 c = search needs
+same-length-3 : tie.Need-same-length-3
+same-length-3 c = search needs
+
+same-length-4 : tie.Need-same-length-4
+same-length-4 c = search needs
 
 returns-2 : tie.Need-returns-2
 returns-2 c =
-    let y = c .before .before .touch-net2 in (
-      y .ensures .0 .0,
+    let y = c .before .before .before .before .touch-tied .ensures in
+    let here = rw (c .before .before .before .before .before .lead-net2 .ensures) at (y .1) in (
+      y .0,
       record {
-        tied = λ k h. rw (c .before .before .before .lead-net2 .ensures) at (y .ensures .0 .1);
-        select = λ k h. absurd (true≢false (sym (counted _ _ k h) ∙ sym (c .before .before .before .before .before .before .before .before .counts .ensures) ∙ c .before .before .before .before .before .before .before .if1 .left));
+        tied = λ k h. here;
+        select = λ k h. absurd (true≢false (sym (counted _ _ k h) ∙ sym (c .before .before .before .before .before .before .before .before .before .before .before .counts .ensures) ∙ c .before .before .before .before .before .before .before .before .before .before .if1 .left));
       },
     )
 
 returns-3 : tie.Need-returns-3
 returns-3 c = (
-  λ x h. h,
+  (λ x h. h, λ x h. h),
   record {
     tied = λ k h. absurd (true≢false (sym (counted _ _ k h) ∙ sym (c .before .counts2 .ensures) ∙ c .if2 .left));
     select = λ k h. absurd (true≢false (sym (counted _ _ k h) ∙ sym (c .before .before .before .counts .ensures) ∙ c .before .before .if1 .left));
@@ -72,12 +77,14 @@ touch-place-spec =
     shared-slice-read-tie
     counts-requires
     lead-net-requires
-    touch-net-requires
+    touch-select-requires
     same-length
+    same-length-2
     returns
     counts-requires-2
     lead-net-requires-2
-    touch-net-requires-2
-    same-length-2
+    touch-tied-requires
+    same-length-3
+    same-length-4
     returns-2
     returns-3)
