@@ -13,8 +13,13 @@ use crate::tally::Tally;
 use gates::chain::link;
 use gates::fill::fill;
 
-// Buckets of the table.
+// Buckets of the table, and of that for a short row.
 const BUCKETS: usize = 4096;
+
+const FEW_BUCKETS: usize = 128;
+
+// A row of fewer codes is short.
+const SHORT: usize = 1024;
 
 // What a search for the set of an AND tells: there is no AND; the AND at this place has its set; it is the first one, of this
 // bucket.
@@ -121,6 +126,16 @@ fn match_all(
     t
 }
 
+// How many buckets a row of n codes gets.
+fn bucket_count(n: usize) -> usize
+    ensures { λ r. ⌜ (0 < r) × (r ≤ 4096) ⌝ }
+{
+    if n < SHORT {
+        return FEW_BUCKETS;
+    }
+    BUCKETS
+}
+
 // Rule 4.
 pub fn by_and_pairs(
     codes: &[u32],
@@ -139,14 +154,6 @@ pub fn by_and_pairs(
     ensures pairs { λ r. ⌜ ((p q : ℕ) → AndAt (now (codes .entry)) (now (marks .entry)) p → AndAt (now (codes .entry)) (now (marks .entry)) q → Alike (now (codes .entry)) (now (old .entry)) p q → JoinedBy (now (new .exit)) r (getD (now (codes .entry)) p 0) (getD (now (codes .entry)) q 0)) ⌝ }
     ensures blank { λ r. ⌜ Blank (now (held .exit)) ⌝ }
 {
-    match_all(
-        codes,
-        marks,
-        old,
-        &mut heads[..BUCKETS],
-        next,
-        held,
-        new,
-        tally,
-    )
+    let m = bucket_count(codes.len());
+    match_all(codes, marks, old, &mut heads[..m], next, held, new, tally)
 }

@@ -17,8 +17,13 @@ use crate::tally::Tally;
 use gates::fill::fill;
 use gates::walk::literal;
 
-// Buckets of the table: a prime, as the nets of a key stand in powers of two.
+// Buckets of the table, and of that for a short row: primes, as the nets of a key stand in powers of two.
 const BUCKETS: usize = 4093;
+
+const FEW_BUCKETS: usize = 127;
+
+// A row of fewer codes is short.
+const SHORT: usize = 1024;
 
 // A round that is being made, and the slots taken in the table of keys.
 pub struct Pass {
@@ -178,6 +183,16 @@ fn take_all(
     s.tally
 }
 
+// How many buckets a row of n codes gets.
+fn bucket_count(n: usize) -> usize
+    ensures { λ r. ⌜ (0 < r) × (r ≤ 4093) ⌝ }
+{
+    if n < SHORT {
+        return FEW_BUCKETS;
+    }
+    BUCKETS
+}
+
 // Joins every conclusion of rules 5 and 6; `any` says whether the list has XORs.
 pub fn by_xors(
     codes: &[u32],
@@ -201,15 +216,6 @@ pub fn by_xors(
     if !any {
         return t;
     }
-    take_all(
-        codes,
-        marks,
-        old,
-        new,
-        keys,
-        sums,
-        next,
-        &mut heads[..BUCKETS],
-        t,
-    )
+    let m = bucket_count(codes.len());
+    take_all(codes, marks, old, new, keys, sums, next, &mut heads[..m], t)
 }

@@ -8,16 +8,23 @@ use borrow.Author.Needs.{needs}
 use Rattle.passes.proofs.and_pairs.by_and_pairs.Statement.{statement}
 use Rattle.passes.proofs.and_pairs.by_and_pairs.Tie as tie
 
+bucket-count-requires : tie.Need-bucket-count-requires
+bucket-count-requires c κs = search needs
+
 slice-relend-prefix-match-all : tie.Need-slice-relend-prefix-match-all
 slice-relend-prefix-match-all c = search needs
 
 slice-aggregate-match-all : tie.Need-slice-aggregate-match-all
-slice-aggregate-match-all c = let s = c .before .before .before .before .before .before .before .before in sym (length-take-le 4096 (now (s .args .heads)) (s .pre .1 .0 .0))
+slice-aggregate-match-all c =
+    let s = c .before .before .before .before .before .before .before .before .before in
+    let m = c .before .bucket-count in
+    sym (length-take-le (m .result) (now (s .args .heads)) (omega (arith, m .ensures .1, s .pre .1 .0 .0)))
 
 match-all-requires : tie.Need-match-all-requires
 match-all-requires c κs =
-    let s = c .before .before .before .before .before .before .before .before .before .before .before in
-    (s .pre .0, ((omega (arith, length-take-le 4096 (now (s .args .heads)) (s .pre .1 .0 .0)), s .pre .1 .0 .1), s .pre .1 .1))
+    let s = c .before .before .before .before .before .before .before .before .before .before .before .before in
+    let m = c .before .before .before .before .bucket-count in
+    (s .pre .0, ((omega (arith, m .ensures .0, length-take-le (m .result) (now (s .args .heads)) (omega (arith, m .ensures .1, s .pre .1 .0 .0))), s .pre .1 .0 .1), s .pre .1 .1))
 
 same-length : tie.Need-same-length
 same-length c = search needs
@@ -38,6 +45,7 @@ pub by-and-pairs-spec : {M : Type 1} → statement M
 by-and-pairs-spec =
     tie.close
     (tie.spec
+    bucket-count-requires
     slice-relend-prefix-match-all
     slice-aggregate-match-all
     match-all-requires

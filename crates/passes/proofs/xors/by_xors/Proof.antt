@@ -15,16 +15,23 @@ returns c =
     let none = s .pre .1 .0 (not-true _ (c .if1 .taken)) in
     (record { making = λ cs d f g. g; later = λ u v j. j }, record { alone = λ b p x. absurd (none b p x); sums = λ b p d q x. absurd (none b p x) })
 
+bucket-count-requires : tie.Need-bucket-count-requires
+bucket-count-requires c κs = search needs
+
 slice-relend-prefix-take-all : tie.Need-slice-relend-prefix-take-all
 slice-relend-prefix-take-all c = search needs
 
 slice-aggregate-take-all : tie.Need-slice-aggregate-take-all
-slice-aggregate-take-all c = let s = c .before .before .before .before .before .before .before .before .before .before .before .before .before .before in sym (length-take-le 4093 (now (s .args .heads)) (s .pre .1 .1 .0))
+slice-aggregate-take-all c =
+    let s = c .before .before .before .before .before .before .before .before .before .before .before .before .before .before .before in
+    let m = c .before .before .before .before .before .bucket-count in
+    sym (length-take-le (m .result) (now (s .args .heads)) (omega (arith, m .ensures .1, s .pre .1 .1 .0)))
 
 take-all-requires : tie.Need-take-all-requires
 take-all-requires c κs =
-    let s = c .before .before .before .before .before .before .before .before .before .before .before .before .before .before in
-    (s .pre .0, (omega (arith, length-take-le 4093 (now (s .args .heads)) (s .pre .1 .1 .0)), s .pre .1 .1 .1))
+    let s = c .before .before .before .before .before .before .before .before .before .before .before .before .before .before .before in
+    let m = c .before .before .before .before .before .bucket-count in
+    (s .pre .0, (omega (arith, m .ensures .0, length-take-le (m .result) (now (s .args .heads)) (omega (arith, m .ensures .1, s .pre .1 .1 .0))), s .pre .1 .1 .1))
 
 same-length : tie.Need-same-length
 same-length c = search needs
@@ -49,6 +56,7 @@ by-xors-spec =
     tie.close
     (tie.spec
     returns
+    bucket-count-requires
     slice-relend-prefix-take-all
     slice-aggregate-take-all
     take-all-requires
