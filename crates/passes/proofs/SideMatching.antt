@@ -23,7 +23,7 @@ use Rattle.passes.specs.Making.{Kernel, JoinedBy, Rule7, Rule8}
 use Rattle.passes.specs.RowJoined.{ItesJoined}
 use Rattle.passes.specs.Joining.{joinState}
 use Rattle.passes.specs.declared.tally.Tally.{Tally}
-use Rattle.passes.specs.Sides.{sideCount, selectAt, outputAt, thenAt, Sides, ListsMarked, Pair, Alike, isAlike, isHeld, Ready, Step, BySelect, ByMates, HasLater, OneOutput, Matched, Slotted, Served, Matching, SideDone, isPair, isSame, buckets, bucketOf, pairKey, alikeKey, keyOf}
+use Rattle.passes.specs.Sides.{sideCount, selectAt, outputAt, thenAt, Sides, ListsMarked, Pair, Alike, isAlike, isHeld, Ready, Step, BySelect, ByMates, HasLater, OneOutput, Matched, Slotted, Served, Matching, SideDone, isPair, isSame, bucketCount, bucketOf, pairKey, alikeKey, keyOf}
 use Rattle.gates.proofs.Fills.{zero-at}
 use Rattle.passes.proofs.Joining.{lead-constant}
 use Rattle.passes.proofs.JoinedBy.{joined-sym, joined-trans}
@@ -246,108 +246,108 @@ module _ (sides old : List ℕ) (k j : ℕ) where
   not-same-pair : isSame sides old k j ≡ false → Pair sides k j → ¬ Kernel old (thenAt sides k) (thenAt sides j)
   not-same-pair h p e = true≢false (sym (eq-eqb _ _ e) ∙ pair-same (pair-is sides k j p) ∙ h)
 
--- Keys
+-- Keys, with m buckets of each kind
 
-module _ (sides old : List ℕ) where
-  key-even : (i : ℕ) → keyOf sides old (2 * i) ≡ pairKey sides i
+module _ (m : ℕ) (sides old : List ℕ) where
+  key-even : (i : ℕ) → keyOf m sides old (2 * i) ≡ pairKey m sides i
   unfolding keyOf
   key-even i = let a : 2 * i % 2 ≡ 0 = omega arith in let b : 2 * i / 2 ≡ i = omega arith in rw (a, b)
 
-  key-odd : (i : ℕ) → keyOf sides old (2 * i + 1) ≡ alikeKey sides old i
+  key-odd : (i : ℕ) → keyOf m sides old (2 * i + 1) ≡ alikeKey m sides old i
   unfolding keyOf
   key-odd i = let a : (2 * i + 1) % 2 ≡ 1 = omega arith in let b : (2 * i + 1) / 2 ≡ i = omega arith in rw (a, b)
 
-  pub even-key : (m : ℕ) → m % 2 ≡ 0 → bucketOf (selectAt sides (m / 2)) (outputAt sides (m / 2)) ≡ keyOf sides old m
+  pub even-key : (k : ℕ) → k % 2 ≡ 0 → bucketOf m (selectAt sides (k / 2)) (outputAt sides (k / 2)) ≡ keyOf m sides old k
   unfolding keyOf pairKey
-  even-key m e = rw e
+  even-key k e = rw e
 
-  pub odd-key : (m : ℕ) → m % 2 ≢ 0 → 4096 + bucketOf (leadOf old (selectAt sides (m / 2))) (leadOf old (thenAt sides (m / 2))) ≡ keyOf sides old m
+  pub odd-key : (k : ℕ) → k % 2 ≢ 0 → m + bucketOf m (leadOf old (selectAt sides (k / 2))) (leadOf old (thenAt sides (k / 2))) ≡ keyOf m sides old k
   unfolding keyOf alikeKey
-  odd-key m n = rw (ne-eqb (m % 2) 0 n)
+  odd-key k n = rw (ne-eqb (k % 2) 0 n)
 
-  mate-key : (k j : ℕ) → Pair sides k j → keyOf sides old (2 * j) ≡ bucketOf (negate (selectAt sides k)) (outputAt sides k)
+  mate-key : (k j : ℕ) → Pair sides k j → keyOf m sides old (2 * j) ≡ bucketOf m (negate (selectAt sides k)) (outputAt sides k)
   unfolding pairKey
   mate-key k j p = key-even j ∙ rw (p .selects, p .outputs)
 
-  group-key : (i k : ℕ) → Alike sides old i k → keyOf sides old (2 * k + 1) ≡ alikeKey sides old i
+  group-key : (i k : ℕ) → Alike sides old i k → keyOf m sides old (2 * k + 1) ≡ alikeKey m sides old i
   unfolding alikeKey
   group-key i k a = key-odd k ∙ rw (a .selects, a .thens)
 
--- Walks along the chains
+-- Walks along the chains, with m buckets of each kind
 
--- over the mates of side k: number m stands for side m / 2
-abbrev pub MatesTo : List ℕ → List ℕ → List ℕ → List ℕ → Tally → ℕ → ℕ → ℕ → Type 0
-MatesTo sides old slots row t b k = Walk (keyOf sides old) (2 * sideCount sides) b (λ m. Pair sides k (m / 2) → Served sides old slots row t k (m / 2))
+-- over the mates of side k: number n stands for side n / 2
+abbrev pub MatesTo : ℕ → List ℕ → List ℕ → List ℕ → List ℕ → Tally → ℕ → ℕ → ℕ → Type 0
+MatesTo m sides old slots row t b k = Walk (keyOf m sides old) (2 * sideCount sides) b (λ n. Pair sides k (n / 2) → Served sides old slots row t k (n / 2))
 
 -- over the sides like side i
-abbrev pub GroupTo : List ℕ → List ℕ → List ℕ → List ℕ → Tally → ℕ → ℕ → ℕ → Type 0
-GroupTo sides old slots row t b i = Walk (keyOf sides old) (2 * sideCount sides) b (λ m. SideDone sides old slots row t i (m / 2))
+abbrev pub GroupTo : ℕ → List ℕ → List ℕ → List ℕ → List ℕ → Tally → ℕ → ℕ → ℕ → Type 0
+GroupTo m sides old slots row t b i = Walk (keyOf m sides old) (2 * sideCount sides) b (λ n. SideDone sides old slots row t i (n / 2))
 
-module _ (sides old heads next : List ℕ) (c : Chained (keyOf sides old) (2 * sideCount sides) heads next) where
-  pub mates-begin : (slots row : List ℕ) (t : Tally) (b k : ℕ) → b < length heads → MatesTo sides old slots row t b k (getD heads b 0)
+module _ (sides old heads next : List ℕ) (c : Chained (keyOf (bucketCount heads) sides old) (2 * sideCount sides) heads next) where
+  pub mates-begin : (slots row : List ℕ) (t : Tally) (b k : ℕ) → b < length heads → MatesTo (bucketCount heads) sides old slots row t b k (getD heads b 0)
   mates-begin slots row t b k = walk-begin _ (2 * sideCount sides) b heads next c _
 
-  pub group-begin : (slots row : List ℕ) (t : Tally) (b i : ℕ) → b < length heads → GroupTo sides old slots row t b i (getD heads b 0)
+  pub group-begin : (slots row : List ℕ) (t : Tally) (b i : ℕ) → b < length heads → GroupTo (bucketCount heads) sides old slots row t b i (getD heads b 0)
   group-begin slots row t b i = walk-begin _ (2 * sideCount sides) b heads next c _
 
-  pub mates-on : {slots row slots′ row′ : List ℕ} {t t′ : Tally} {b k m : ℕ} → MatesTo sides old slots row t b k m → 0 < m → Matching sides old k slots row t slots′ row′ t′
-      → (Pair sides k ((m - 1) / 2) → Served sides old slots′ row′ t′ k ((m - 1) / 2)) → MatesTo sides old slots′ row′ t′ b k (getD next (m - 1) 0)
+  pub mates-on : {slots row slots′ row′ : List ℕ} {t t′ : Tally} {b k m : ℕ} → MatesTo (bucketCount heads) sides old slots row t b k m → 0 < m → Matching sides old k slots row t slots′ row′ t′
+      → (Pair sides k ((m - 1) / 2) → Served sides old slots′ row′ t′ k ((m - 1) / 2)) → MatesTo (bucketCount heads) sides old slots′ row′ t′ b k (getD next (m - 1) 0)
   mates-on {slots} {row} {slots′} {row′} {t} {t′} {b} {k} w h n d =
       walk-next _ (2 * sideCount sides) b heads next c
       (walk-map _ (2 * sideCount sides) b (λ i f p. served-on sides old n (alike-self sides old k) (f p)) w) h d
 
-  pub mates-end : {slots row : List ℕ} {t : Tally} {b k m : ℕ} → MatesTo sides old slots row t b k m → m ≤ 0 → b ≡ bucketOf (negate (selectAt sides k)) (outputAt sides k)
+  pub mates-end : {slots row : List ℕ} {t : Tally} {b k m : ℕ} → MatesTo (bucketCount heads) sides old slots row t b k m → m ≤ 0 → b ≡ bucketOf (bucketCount heads) (negate (selectAt sides k)) (outputAt sides k)
       → (j : ℕ) → Pair sides k j → Served sides old slots row t k j
   mates-end {slots} {row} {t} {b} {k} w h e j p =
       let q : 2 * j / 2 ≡ j = omega arith in
-      rw q at (walk-end _ (2 * sideCount sides) b w h (2 * j) (omega (arith, p .second)) (mate-key sides old k j p ∙ sym e) (rw q p))
+      rw q at (walk-end _ (2 * sideCount sides) b w h (2 * j) (omega (arith, p .second)) (mate-key (bucketCount heads) sides old k j p ∙ sym e) (rw q p))
 
-  pub group-on : {slots row slots′ row′ : List ℕ} {t t′ : Tally} {b i m : ℕ} → GroupTo sides old slots row t b i m → 0 < m → Matching sides old i slots row t slots′ row′ t′
-      → SideDone sides old slots′ row′ t′ i ((m - 1) / 2) → GroupTo sides old slots′ row′ t′ b i (getD next (m - 1) 0)
+  pub group-on : {slots row slots′ row′ : List ℕ} {t t′ : Tally} {b i m : ℕ} → GroupTo (bucketCount heads) sides old slots row t b i m → 0 < m → Matching sides old i slots row t slots′ row′ t′
+      → SideDone sides old slots′ row′ t′ i ((m - 1) / 2) → GroupTo (bucketCount heads) sides old slots′ row′ t′ b i (getD next (m - 1) 0)
   group-on {slots} {row} {slots′} {row′} {t} {t′} {b} w h n d =
       walk-next _ (2 * sideCount sides) b heads next c
       (walk-map _ (2 * sideCount sides) b (λ m f a j p. served-on sides old n a (f a j p)) w) h d
 
-  pub group-end : {slots row : List ℕ} {t : Tally} {b i m : ℕ} → GroupTo sides old slots row t b i m → m ≤ 0 → b ≡ keyOf sides old (2 * i + 1)
+  pub group-end : {slots row : List ℕ} {t : Tally} {b i m : ℕ} → GroupTo (bucketCount heads) sides old slots row t b i m → m ≤ 0 → b ≡ keyOf (bucketCount heads) sides old (2 * i + 1)
       → Matched sides old row t i
   group-end {slots} {row} {t} {b} {i} w h e =
       all-matched sides old i
       (λ k a j p.
       let q : (2 * k + 1) / 2 ≡ k = omega arith in
-      let f : SideDone sides old slots row t i k = rw q at (walk-end _ (2 * sideCount sides) b w h (2 * k + 1) (omega (arith, p .first)) (group-key sides old i k a ∙ sym (key-odd sides old i) ∙ sym e)) in
+      let f : SideDone sides old slots row t i k = rw q at (walk-end _ (2 * sideCount sides) b w h (2 * k + 1) (omega (arith, p .first)) (group-key (bucketCount heads) sides old i k a ∙ sym (key-odd (bucketCount heads) sides old i) ∙ sym e)) in
       f a j p)
 
 -- over the sides that can make an ITE with side k whose t and e have one lead
-abbrev pub SamesTo : List ℕ → List ℕ → ℕ → ℕ → ℕ → Type 0
-SamesTo sides old b k = Walk (keyOf sides old) (2 * sideCount sides) b (λ m. isSame sides old k (m / 2) ≡ false)
+abbrev pub SamesTo : ℕ → List ℕ → List ℕ → ℕ → ℕ → ℕ → Type 0
+SamesTo m sides old b k = Walk (keyOf m sides old) (2 * sideCount sides) b (λ n. isSame sides old k (n / 2) ≡ false)
 
 -- over the sides like side i whose outputs are joined to its
-abbrev pub OutputsTo : List ℕ → List ℕ → List ℕ → ℕ → ℕ → ℕ → Type 0
-OutputsTo sides old row b i = Walk (keyOf sides old) (2 * sideCount sides) b (λ m. Alike sides old i (m / 2) → leadOf row (outputAt sides (m / 2)) ≡ leadOf row (outputAt sides i))
+abbrev pub OutputsTo : ℕ → List ℕ → List ℕ → List ℕ → ℕ → ℕ → ℕ → Type 0
+OutputsTo m sides old row b i = Walk (keyOf m sides old) (2 * sideCount sides) b (λ n. Alike sides old i (n / 2) → leadOf row (outputAt sides (n / 2)) ≡ leadOf row (outputAt sides i))
 
-module _ (sides old : List ℕ) where
+module _ (m : ℕ) (sides old : List ℕ) where
   same-key : (k j : ℕ) → Pair sides k j → Kernel old (thenAt sides k) (thenAt sides j)
-      → keyOf sides old (2 * j + 1) ≡ buckets + bucketOf (leadOf old (negate (selectAt sides k))) (leadOf old (thenAt sides k))
+      → keyOf m sides old (2 * j + 1) ≡ m + bucketOf m (leadOf old (negate (selectAt sides k))) (leadOf old (thenAt sides k))
   unfolding alikeKey
-  same-key k j p e = key-odd sides old j ∙ rw (p .selects, e)
+  same-key k j p e = key-odd m sides old j ∙ rw (p .selects, e)
 
   -- no ITE of side k has been found
-  pub sames-end : {b k m : ℕ} (row : List ℕ) (t : Tally) → SamesTo sides old b k m → m ≤ 0 → b ≡ buckets + bucketOf (leadOf old (negate (selectAt sides k))) (leadOf old (thenAt sides k))
+  pub sames-end : {b k n : ℕ} (row : List ℕ) (t : Tally) → SamesTo m sides old b k n → n ≤ 0 → b ≡ m + bucketOf m (leadOf old (negate (selectAt sides k))) (leadOf old (thenAt sides k))
       → ByMates sides old row t k
   sames-end {b} {k} row t w h q j p e =
       let n : (2 * j + 1) / 2 ≡ j = omega arith in
       absurd (not-same-pair sides old k j (rw n at (walk-end _ (2 * sideCount sides) b w h (2 * j + 1) (omega (arith, p .second)) (same-key k j p e ∙ sym q))) p e)
 
-  pub mates-none : {b k m : ℕ} (row : List ℕ) (t : Tally) → SamesTo sides old b k m → m ≤ 0 → b ≡ bucketOf (negate (selectAt sides k)) (outputAt sides k) → ByMates sides old row t k
+  pub mates-none : {b k n : ℕ} (row : List ℕ) (t : Tally) → SamesTo m sides old b k n → n ≤ 0 → b ≡ bucketOf m (negate (selectAt sides k)) (outputAt sides k) → ByMates sides old row t k
   mates-none {b} {k} row t w h q j p e =
       let n : 2 * j / 2 ≡ j = omega arith in
-      absurd (not-same-pair sides old k j (rw n at (walk-end _ (2 * sideCount sides) b w h (2 * j) (omega (arith, p .second)) (mate-key sides old k j p ∙ sym q))) p e)
+      absurd (not-same-pair sides old k j (rw n at (walk-end _ (2 * sideCount sides) b w h (2 * j) (omega (arith, p .second)) (mate-key m sides old k j p ∙ sym q))) p e)
 
-  pub outputs-end : {b i m : ℕ} (row : List ℕ) → OutputsTo sides old row b i m → m ≤ 0 → b ≡ keyOf sides old (2 * i + 1) → OneOutput sides old row i
+  pub outputs-end : {b i n : ℕ} (row : List ℕ) → OutputsTo m sides old row b i n → n ≤ 0 → b ≡ keyOf m sides old (2 * i + 1) → OneOutput sides old row i
   outputs-end {b} {i} row w h q k l a =
       let n : (2 * k + 1) / 2 ≡ k = omega arith in
       let f : Alike sides old i k → leadOf row (outputAt sides k) ≡ leadOf row (outputAt sides i)
-      = rw n at (walk-end _ (2 * sideCount sides) b w h (2 * k + 1) (omega arith) (group-key sides old i k a ∙ sym (key-odd sides old i) ∙ sym q)) in
+      = rw n at (walk-end _ (2 * sideCount sides) b w h (2 * k + 1) (omega arith) (group-key m sides old i k a ∙ sym (key-odd m sides old i) ∙ sym q)) in
       f a
 
 -- The two rules

@@ -180,20 +180,29 @@ SideDone sides old slots row t i k = Alike sides old i k → (j : ℕ) → Pair 
 
 -- The chains of the sides
 
--- the buckets of the mates, and as many again of the sides that are alike
+-- at most this many buckets of the mates, and as many again of the sides that are alike
 abbrev pub buckets : ℕ
 buckets = 4096
 
-unfoldable pub bucketOf : ℕ → ℕ → ℕ
-bucketOf a b = (a % buckets * 97 + b % buckets) % buckets
+-- how many of each kind a row of heads has: its first half is for the mates
+abbrev pub bucketCount : List ℕ → ℕ
+bucketCount heads = length heads / 2
 
--- where the mates of a side are looked for, and where the sides like one
-unfoldable pub pairKey : List ℕ → ℕ → ℕ
-pairKey sides i = bucketOf (selectAt sides i) (outputAt sides i)
+-- .. at least one, and at most as many as there may be
+abbrev pub Bucketed : List ℕ → Type 0
+Bucketed heads = (0 < bucketCount heads) × (bucketCount heads ≤ buckets)
 
-unfoldable pub alikeKey : List ℕ → List ℕ → ℕ → ℕ
-alikeKey sides old i = buckets + bucketOf (leadOf old (selectAt sides i)) (leadOf old (thenAt sides i))
+-- the bucket, of m, of two codes
+unfoldable pub bucketOf : ℕ → ℕ → ℕ → ℕ
+bucketOf m a b = (a % buckets * 97 + b % buckets) % m
+
+-- where the mates of a side are looked for, and where the sides like one, with m buckets of each kind
+unfoldable pub pairKey : ℕ → List ℕ → ℕ → ℕ
+pairKey m sides i = bucketOf m (selectAt sides i) (outputAt sides i)
+
+unfoldable pub alikeKey : ℕ → List ℕ → List ℕ → ℕ → ℕ
+alikeKey m sides old i = m + bucketOf m (leadOf old (selectAt sides i)) (leadOf old (thenAt sides i))
 
 -- side i has the numbers 2i and 2i + 1 in the chains
-unfoldable pub keyOf : List ℕ → List ℕ → ℕ → ℕ
-keyOf sides old m = cond (eqb (m % 2) 0) (pairKey sides (m / 2)) (alikeKey sides old (m / 2))
+unfoldable pub keyOf : ℕ → List ℕ → List ℕ → ℕ → ℕ
+keyOf m sides old k = cond (eqb (k % 2) 0) (pairKey m sides (k / 2)) (alikeKey m sides old (k / 2))

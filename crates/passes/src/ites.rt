@@ -7,7 +7,7 @@ ghost use lib.ListN.{length};
 ghost use Rattle.clauses.specs.Limit.{maxNets};
 ghost use Rattle.gates.specs.Chains.{Chained};
 ghost use Rattle.rules.specs.Answer.{leadOf};
-ghost use Rattle.passes.specs.Sides.{maxSides, sideCount, outputAt, Pair, isPair, isAlike, isSame, isHeld, Alike, Ready, Step, BySelect, ByMates, HasLater, OneOutput, Matched, Slotted, Served, Matching, SideDone, buckets, keyOf};
+ghost use Rattle.passes.specs.Sides.{maxSides, sideCount, outputAt, Pair, isPair, isAlike, isSame, isHeld, Alike, Ready, Step, BySelect, ByMates, HasLater, OneOutput, Matched, Slotted, Served, Matching, SideDone, buckets, bucketCount, Bucketed, keyOf};
 use crate::lead::lead_of;
 use crate::side_chains::bucket;
 use crate::side_chains::chain_sides;
@@ -19,6 +19,14 @@ use crate::sign::flipped;
 use crate::tally::Tally;
 use clauses::limits::CODES;
 use gates::fill::fill;
+
+// Buckets of each kind in the chains, and in those for a short row.
+const BUCKETS: usize = 4096;
+
+const FEW_BUCKETS: usize = 128;
+
+// A row of sides with fewer entries, below 128 sides, is short.
+const SHORT: usize = 384;
 
 // Rule 7 for side i, by its select.
 fn by_select(sides: &[u32], i: usize, old: &[u32], new: &mut [u32], t: Tally) -> Tally
@@ -118,8 +126,8 @@ fn by_mates(
     t: Tally,
 ) -> Tally
     requires { ⌜ Ready (now sides) (now old) (now new) t ⌝ }
-    requires { ⌜ (length (now heads) ≡ 2 * buckets) × (length (now next) ≡ 2 * maxSides) ⌝ }
-    requires { ⌜ Chained (keyOf (now sides) (now old)) (2 * sideCount (now sides)) (now heads) (now next) ⌝ }
+    requires { ⌜ Bucketed (now heads) × (length (now next) ≡ 2 * maxSides) ⌝ }
+    requires { ⌜ Chained (keyOf (bucketCount (now heads)) (now sides) (now old)) (2 * sideCount (now sides)) (now heads) (now next) ⌝ }
     requires { ⌜ k < sideCount (now sides) ⌝ }
     ensures { λ r. ⌜ Step (now (sides .entry)) (now (old .entry)) (now (new .entry)) t (now (new .exit)) r ⌝ }
     ensures { λ r. ⌜ ByMates (now (sides .entry)) (now (old .entry)) (now (new .exit)) r k ⌝ }
@@ -127,10 +135,11 @@ fn by_mates(
     let c = flipped(true, select_of(sides, k));
     let l = output_of(sides, k);
     let u = then_of(sides, k);
-    let b = bucket(c, l) as usize;
-    let d = bucket(lead_of(old, c), lead_of(old, u)) as usize;
+    let half = heads.len() / 2;
+    let b = bucket(c, l, half);
+    let d = bucket(lead_of(old, c), lead_of(old, u), half);
     let mut m = heads[b] as usize;
-    let mut n = heads[4096 + d] as usize;
+    let mut n = heads[half + d] as usize;
     while 0 < m {
         if n == 0 {
             return t;
@@ -154,8 +163,8 @@ fn by_all_mates(
     tally: Tally,
 ) -> Tally
     requires { ⌜ Ready (now sides) (now old) (now new) tally ⌝ }
-    requires { ⌜ (length (now heads) ≡ 2 * buckets) × (length (now next) ≡ 2 * maxSides) ⌝ }
-    requires { ⌜ Chained (keyOf (now sides) (now old)) (2 * sideCount (now sides)) (now heads) (now next) ⌝ }
+    requires { ⌜ Bucketed (now heads) × (length (now next) ≡ 2 * maxSides) ⌝ }
+    requires { ⌜ Chained (keyOf (bucketCount (now heads)) (now sides) (now old)) (2 * sideCount (now sides)) (now heads) (now next) ⌝ }
     ensures { λ r. ⌜ Step (now (sides .entry)) (now (old .entry)) (now (new .entry)) tally (now (new .exit)) r ⌝ }
     ensures { λ r. ⌜ ((i : ℕ) → i < sideCount (now (sides .entry)) → ByMates (now (sides .entry)) (now (old .entry)) (now (new .exit)) r i) ⌝ }
 {
@@ -229,14 +238,18 @@ fn match_side(
 ) -> Tally
     requires { ⌜ Ready (now sides) (now old) (now new) tally ⌝ }
     requires { ⌜ Slotted (now sides) (now old) (now slots) ⌝ }
-    requires { ⌜ (length (now heads) ≡ 2 * buckets) × (length (now next) ≡ 2 * maxSides) ⌝ }
-    requires { ⌜ Chained (keyOf (now sides) (now old)) (2 * sideCount (now sides)) (now heads) (now next) ⌝ }
+    requires { ⌜ Bucketed (now heads) × (length (now next) ≡ 2 * maxSides) ⌝ }
+    requires { ⌜ Chained (keyOf (bucketCount (now heads)) (now sides) (now old)) (2 * sideCount (now sides)) (now heads) (now next) ⌝ }
     requires { ⌜ k < sideCount (now sides) ⌝ }
     ensures { λ r. ⌜ Matching (now (sides .entry)) (now (old .entry)) k (now (slots .entry)) (now (new .entry)) tally (now (slots .exit)) (now (new .exit)) r ⌝ }
     ensures { λ r. ⌜ ((j : ℕ) → Pair (now (sides .entry)) k j → Served (now (sides .entry)) (now (old .entry)) (now (slots .exit)) (now (new .exit)) r k j) ⌝ }
 {
     let mut t = tally;
-    let b = bucket(flipped(true, select_of(sides, k)), output_of(sides, k)) as usize;
+    let b = bucket(
+        flipped(true, select_of(sides, k)),
+        output_of(sides, k),
+        heads.len() / 2,
+    );
     let mut m = heads[b] as usize;
     while 0 < m {
         t = try_pair(sides, k, (m - 1) / 2, old, slots, new, t);
@@ -248,12 +261,12 @@ fn match_side(
 // Whether a side after i is like it: then the first one of its chain that is like it is.
 fn has_later(sides: &[u32], i: usize, heads: &[u32], next: &[u32], old: &[u32]) -> bool
     requires { ⌜ length (now sides) ≤ 3 * maxSides ⌝ }
-    requires { ⌜ (length (now heads) ≡ 2 * buckets) × (length (now next) ≡ 2 * maxSides) ⌝ }
-    requires { ⌜ Chained (keyOf (now sides) (now old)) (2 * sideCount (now sides)) (now heads) (now next) ⌝ }
+    requires { ⌜ Bucketed (now heads) × (length (now next) ≡ 2 * maxSides) ⌝ }
+    requires { ⌜ Chained (keyOf (bucketCount (now heads)) (now sides) (now old)) (2 * sideCount (now sides)) (now heads) (now next) ⌝ }
     requires { ⌜ i < sideCount (now sides) ⌝ }
     ensures { λ r. ⌜ (r ≡ true → HasLater (now (sides .entry)) (now (old .entry)) i) ⌝ }
 {
-    let mut m = heads[key_of(sides, old, 2 * i + 1)] as usize;
+    let mut m = heads[key_of(sides, old, heads.len() / 2, 2 * i + 1)] as usize;
     while 2 * i + 2 < m {
         if is_alike(sides, old, i, (m - 1) / 2) {
             return true;
@@ -287,12 +300,12 @@ fn has_one_output(
     new: &[u32],
 ) -> bool
     requires { ⌜ length (now sides) ≤ 3 * maxSides ⌝ }
-    requires { ⌜ (length (now heads) ≡ 2 * buckets) × (length (now next) ≡ 2 * maxSides) ⌝ }
-    requires { ⌜ Chained (keyOf (now sides) (now old)) (2 * sideCount (now sides)) (now heads) (now next) ⌝ }
+    requires { ⌜ Bucketed (now heads) × (length (now next) ≡ 2 * maxSides) ⌝ }
+    requires { ⌜ Chained (keyOf (bucketCount (now heads)) (now sides) (now old)) (2 * sideCount (now sides)) (now heads) (now next) ⌝ }
     requires { ⌜ i < sideCount (now sides) ⌝ }
     ensures { λ r. ⌜ (r ≡ true → OneOutput (now (sides .entry)) (now (old .entry)) (now (new .entry)) i) ⌝ }
 {
-    let mut m = heads[key_of(sides, old, 2 * i + 1)] as usize;
+    let mut m = heads[key_of(sides, old, heads.len() / 2, 2 * i + 1)] as usize;
     while 0 < m {
         if !is_joined(sides, i, (m - 1) / 2, old, new) {
             return false;
@@ -316,8 +329,8 @@ fn match_alike(
 ) -> Tally
     requires { ⌜ Ready (now sides) (now old) (now new) t ⌝ }
     requires { ⌜ Slotted (now sides) (now old) (now slots) ⌝ }
-    requires { ⌜ (length (now heads) ≡ 2 * buckets) × (length (now next) ≡ 2 * maxSides) ⌝ }
-    requires { ⌜ Chained (keyOf (now sides) (now old)) (2 * sideCount (now sides)) (now heads) (now next) ⌝ }
+    requires { ⌜ Bucketed (now heads) × (length (now next) ≡ 2 * maxSides) ⌝ }
+    requires { ⌜ Chained (keyOf (bucketCount (now heads)) (now sides) (now old)) (2 * sideCount (now sides)) (now heads) (now next) ⌝ }
     requires { ⌜ (i < sideCount (now sides)) × (k < sideCount (now sides)) ⌝ }
     ensures { λ r. ⌜ Matching (now (sides .entry)) (now (old .entry)) i (now (slots .entry)) (now (new .entry)) t (now (slots .exit)) (now (new .exit)) r ⌝ }
     ensures { λ r. ⌜ SideDone (now (sides .entry)) (now (old .entry)) (now (slots .exit)) (now (new .exit)) r i k ⌝ }
@@ -341,15 +354,15 @@ fn match_likes(
 ) -> Tally
     requires { ⌜ Ready (now sides) (now old) (now new) tally ⌝ }
     requires { ⌜ Slotted (now sides) (now old) (now slots) ⌝ }
-    requires { ⌜ (length (now heads) ≡ 2 * buckets) × (length (now next) ≡ 2 * maxSides) ⌝ }
-    requires { ⌜ Chained (keyOf (now sides) (now old)) (2 * sideCount (now sides)) (now heads) (now next) ⌝ }
+    requires { ⌜ Bucketed (now heads) × (length (now next) ≡ 2 * maxSides) ⌝ }
+    requires { ⌜ Chained (keyOf (bucketCount (now heads)) (now sides) (now old)) (2 * sideCount (now sides)) (now heads) (now next) ⌝ }
     requires { ⌜ i < sideCount (now sides) ⌝ }
     ensures { λ r. ⌜ Step (now (sides .entry)) (now (old .entry)) (now (new .entry)) tally (now (new .exit)) r ⌝ }
     ensures { λ _. ⌜ Slotted (now (sides .entry)) (now (old .entry)) (now (slots .exit)) ⌝ }
     ensures { λ r. ⌜ Matched (now (sides .entry)) (now (old .entry)) (now (new .exit)) r i ⌝ }
 {
     let mut t = tally;
-    let mut m = heads[key_of(sides, old, 2 * i + 1)] as usize;
+    let mut m = heads[key_of(sides, old, heads.len() / 2, 2 * i + 1)] as usize;
     while 0 < m {
         t = match_alike(sides, i, (m - 1) / 2, heads, next, old, slots, new, t);
         m = next[m - 1] as usize;
@@ -370,8 +383,8 @@ fn match_group(
 ) -> Tally
     requires { ⌜ Ready (now sides) (now old) (now new) t ⌝ }
     requires { ⌜ Slotted (now sides) (now old) (now slots) ⌝ }
-    requires { ⌜ (length (now heads) ≡ 2 * buckets) × (length (now next) ≡ 2 * maxSides) ⌝ }
-    requires { ⌜ Chained (keyOf (now sides) (now old)) (2 * sideCount (now sides)) (now heads) (now next) ⌝ }
+    requires { ⌜ Bucketed (now heads) × (length (now next) ≡ 2 * maxSides) ⌝ }
+    requires { ⌜ Chained (keyOf (bucketCount (now heads)) (now sides) (now old)) (2 * sideCount (now sides)) (now heads) (now next) ⌝ }
     requires { ⌜ i < sideCount (now sides) ⌝ }
     requires { ⌜ ((k : ℕ) → i < k → k < sideCount (now sides) → Matched (now sides) (now old) (now new) t k) ⌝ }
     ensures { λ r. ⌜ Step (now (sides .entry)) (now (old .entry)) (now (new .entry)) t (now (new .exit)) r ⌝ }
@@ -399,8 +412,8 @@ fn match_all(
 ) -> Tally
     requires { ⌜ Ready (now sides) (now old) (now new) tally ⌝ }
     requires { ⌜ Slotted (now sides) (now old) (now slots) ⌝ }
-    requires { ⌜ (length (now heads) ≡ 2 * buckets) × (length (now next) ≡ 2 * maxSides) ⌝ }
-    requires { ⌜ Chained (keyOf (now sides) (now old)) (2 * sideCount (now sides)) (now heads) (now next) ⌝ }
+    requires { ⌜ Bucketed (now heads) × (length (now next) ≡ 2 * maxSides) ⌝ }
+    requires { ⌜ Chained (keyOf (bucketCount (now heads)) (now sides) (now old)) (2 * sideCount (now sides)) (now heads) (now next) ⌝ }
     ensures { λ r. ⌜ Step (now (sides .entry)) (now (old .entry)) (now (new .entry)) tally (now (new .exit)) r ⌝ }
     ensures { λ r. ⌜ ((i : ℕ) → i < sideCount (now (sides .entry)) → Matched (now (sides .entry)) (now (old .entry)) (now (new .exit)) r i) ⌝ }
 {
@@ -411,6 +424,16 @@ fn match_all(
         t = match_group(sides, i, heads, next, old, slots, new, t);
     }
     t
+}
+
+// How many buckets of each kind a row of n entries gets.
+fn bucket_count(n: usize) -> usize
+    ensures { λ r. ⌜ (0 < r) × (r ≤ buckets) ⌝ }
+{
+    if n < SHORT {
+        return FEW_BUCKETS;
+    }
+    BUCKETS
 }
 
 // Rules 7 and 8 for a row of sides.
@@ -424,7 +447,7 @@ fn by_sides(
     t: Tally,
 ) -> Tally
     requires { ⌜ Ready (now sides) (now old) (now new) t ⌝ }
-    requires { ⌜ (length (now heads) ≡ 2 * buckets) × (length (now next) ≡ 2 * maxSides) ⌝ }
+    requires { ⌜ Bucketed (now heads) × (length (now next) ≡ 2 * maxSides) ⌝ }
     requires { ⌜ length (now slots) ≡ 2 * maxNets + 2 ⌝ }
     ensures { λ r. ⌜ Step (now (sides .entry)) (now (old .entry)) (now (new .entry)) t (now (new .exit)) r ⌝ }
     ensures { λ r. ⌜ ((i : ℕ) → i < sideCount (now (sides .entry)) → BySelect (now (sides .entry)) (now (old .entry)) (now (new .exit)) r i) ⌝ }
@@ -439,7 +462,7 @@ fn by_sides(
     match_all(sides, heads, next, old, slots, new, mated)
 }
 
-// The same, where the row may be empty.
+// The same, where the row may be empty, and fewer buckets where it is short.
 pub fn by_ites(
     sides: &[u32],
     heads: &mut [u32],
@@ -460,5 +483,14 @@ pub fn by_ites(
     if sides.len() == 0 {
         return t;
     }
-    by_sides(sides, heads, next, old, &mut slots[..CODES], new, t)
+    let end = 2 * bucket_count(sides.len());
+    by_sides(
+        sides,
+        &mut heads[..end],
+        next,
+        old,
+        &mut slots[..CODES],
+        new,
+        t,
+    )
 }

@@ -7,7 +7,7 @@ use native.Mathlib.Omega.{arith}
 use lib.ListN.{length}
 use denote.Ref.{now}
 use Rattle.clauses.proofs.Lists.{or-cases}
-use Rattle.passes.specs.Sides.{sideCount}
+use Rattle.passes.specs.Sides.{sideCount, bucketCount}
 use Rattle.passes.proofs.SideSteps.{step-none, ready-joins, same-mates}
 use Rattle.passes.proofs.SideMatching.{SamesTo, sames-end, mates-none, neither-is, is-same}
 use Rattle.gates.proofs.Chains.{walk-begin, walk-next, walk-falls}
@@ -15,10 +15,10 @@ use Rattle.passes.proofs.ites.by_mates.Statement.{statement}
 use Rattle.passes.proofs.ites.by_mates.Tie as tie
 
 abbrev Inv-loop : tie.InvT-loop
-Inv-loop sides k heads next old new₀ t c l u b d m₀ n₀ new m n = (new ≡ new₀) × SamesTo sides old b k m × SamesTo sides old (4096 + d) k n
+Inv-loop sides k heads next old new₀ t c l u half b d m₀ n₀ new m n = (new ≡ new₀) × SamesTo half sides old b k m × SamesTo half sides old (half + d) k n
 
 abbrev μ-loop : tie.MeasureT-loop
-μ-loop sides k heads next old new₀ t c l u b d m₀ n₀ new m n = m
+μ-loop sides k heads next old new₀ t c l u half b d m₀ n₀ new m n = m
 
 select-of-requires : tie.Need-select-of-requires Inv-loop μ-loop
 select-of-requires c κs = c .before .before .before .before .before .pre .1 .1 .1
@@ -33,10 +33,7 @@ then-of-requires : tie.Need-then-of-requires Inv-loop μ-loop
 then-of-requires c κs = c .before .before .before .before .before .before .before .before .pre .1 .1 .1
 
 bucket-requires : tie.Need-bucket-requires Inv-loop μ-loop
-bucket-requires c κs = tt
-
-cast-b : tie.Need-cast-b Inv-loop μ-loop
-cast-b c = omega (arith, c .bucket .ensures .1)
+bucket-requires c κs = c .before .before .before .before .before .before .before .before .before .pre .1 .0 .0 .0
 
 lead-of-requires : tie.Need-lead-of-requires Inv-loop μ-loop
 lead-of-requires c κs = tt
@@ -45,38 +42,35 @@ lead-of-requires-2 : tie.Need-lead-of-requires-2 Inv-loop μ-loop
 lead-of-requires-2 c κs = tt
 
 bucket-requires-2 : tie.Need-bucket-requires-2 Inv-loop μ-loop
-bucket-requires-2 c κs = tt
-
-cast-d : tie.Need-cast-d Inv-loop μ-loop
-cast-d c = omega (arith, c .bucket2 .ensures .1)
+bucket-requires-2 c κs = c .before .before .before .before .before .before .before .before .before .before .before .before .pre .1 .0 .0 .0
 
 mul-m : tie.Need-mul-m Inv-loop μ-loop
-mul-m c = omega (arith, c .before .before .before .bucket .ensures .1)
+mul-m c = omega (arith, c .before .before .before .bucket .ensures .1, c .before .before .before .before .before .before .before .before .before .before .before .before .before .pre .1 .0 .0 .1)
 
 shared-slice-read-m : tie.Need-shared-slice-read-m Inv-loop μ-loop
-shared-slice-read-m c = omega (arith, c .before .before .before .before .bucket .ensures .1, c .before .before .before .before .before .before .before .before .before .before .before .before .before .before .pre .1 .0 .0)
+shared-slice-read-m c = omega (arith, c .before .before .before .before .bucket .ensures .1)
 
 cast-m : tie.Need-cast-m Inv-loop μ-loop
 cast-m c = omega (arith, c .shared-slice-known5 .given (c .before .before .before .before .bucket .result))
 
 add-n : tie.Need-add-n Inv-loop μ-loop
-add-n c = omega (arith, c .before .bucket2 .ensures .1)
+add-n c = omega (arith, c .before .bucket2 .ensures .1, c .before .before .before .before .before .before .before .before .before .before .before .before .before .before .pre .1 .0 .0 .1)
 
 mul-n : tie.Need-mul-n Inv-loop μ-loop
-mul-n c = omega (arith, c .before .bucket2 .ensures .1)
+mul-n c = omega (arith, c .before .bucket2 .ensures .1, c .before .before .before .before .before .before .before .before .before .before .before .before .before .before .pre .1 .0 .0 .1)
 
 shared-slice-read-n : tie.Need-shared-slice-read-n Inv-loop μ-loop
-shared-slice-read-n c = omega (arith, c .before .before .bucket2 .ensures .1, c .before .before .before .before .before .before .before .before .before .before .before .before .before .before .before .pre .1 .0 .0)
+shared-slice-read-n c = omega (arith, c .before .before .bucket2 .ensures .1)
 
 cast-n : tie.Need-cast-n Inv-loop μ-loop
-cast-n c = omega (arith, c .shared-slice-known6 .given (4096 + c .before .before .bucket2 .result))
+cast-n c = omega (arith, c .shared-slice-known6 .given (bucketCount (now (c .before .before .before .before .before .before .before .before .before .before .before .before .before .before .before .args .heads)) + c .before .before .bucket2 .result))
 
 loop-holds : tie.Need-loop-holds Inv-loop μ-loop
 loop-holds c =
     let s = c .before .before .before .before .before .before .before .before .before .before .before .before .before .before .before in (
       refl,
-      walk-begin _ (2 * sideCount (now (s .args .sides))) (c .before .before .before .before .before .bucket .result) (now (s .args .heads)) (now (s .args .next)) (s .pre .1 .1 .0) _ (omega (arith, c .before .before .before .before .before .bucket .ensures .1, s .pre .1 .0 .0)),
-      walk-begin _ (2 * sideCount (now (s .args .sides))) (4096 + c .before .before .bucket2 .result) (now (s .args .heads)) (now (s .args .next)) (s .pre .1 .1 .0) _ (omega (arith, c .before .before .bucket2 .ensures .1, s .pre .1 .0 .0)),
+      walk-begin _ (2 * sideCount (now (s .args .sides))) (c .before .before .before .before .before .bucket .result) (now (s .args .heads)) (now (s .args .next)) (s .pre .1 .1 .0) _ (omega (arith, c .before .before .before .before .before .bucket .ensures .1)),
+      walk-begin _ (2 * sideCount (now (s .args .sides))) (bucketCount (now (s .args .heads)) + c .before .before .bucket2 .result) (now (s .args .heads)) (now (s .args .next)) (s .pre .1 .1 .0) _ (omega (arith, c .before .before .bucket2 .ensures .1)),
     )
 
 same-length : tie.Need-same-length Inv-loop μ-loop
@@ -88,8 +82,8 @@ returns c =
     let l = c .before .before .loop in
     rw (l .inv .0) (
       step-none (now (s .args .sides)) (now (s .args .old)),
-      sames-end (now (s .args .sides)) (now (s .args .old)) (now (s .args .new)) (s .args .t) (l .inv .2) (omega (arith, c .if1 .taken))
-          (ap (λ (x : ℕ). 4096 + x) (rw (c .before .before .before .before .before .bucket2 .ensures .0, c .before .before .before .before .before .before .before .lead-of .ensures, c .before .before .before .before .before .before .before .before .before .before .before .flipped .ensures, c .before .before .before .before .before .before .before .before .before .before .before .before .select-of .ensures, c .before .before .before .before .before .before .lead-of2 .ensures, c .before .before .before .before .before .before .before .before .before .then-of .ensures))),
+      sames-end (bucketCount (now (s .args .heads))) (now (s .args .sides)) (now (s .args .old)) (now (s .args .new)) (s .args .t) (l .inv .2) (omega (arith, c .if1 .taken))
+          (ap (λ (x : ℕ). bucketCount (now (s .args .heads)) + x) (rw (c .before .before .before .before .before .bucket2 .ensures .0, c .before .before .before .before .before .before .before .lead-of .ensures, c .before .before .before .before .before .before .before .before .before .before .before .flipped .ensures, c .before .before .before .before .before .before .before .before .before .before .before .before .select-of .ensures, c .before .before .before .before .before .before .lead-of2 .ensures, c .before .before .before .before .before .before .before .before .before .then-of .ensures))),
     )
 
 sub-is-either : tie.Need-sub-is-either Inv-loop μ-loop
@@ -155,7 +149,7 @@ loop-again c =
     let none = neither-is _ _ (sym (c .before .before .before .is-either .ensures) ∙ c .before .before .if2 .left) in (
       l .inv .0,
       walk-next _ (2 * sideCount (now (s .args .sides))) (c .before .before .before .before .before .before .before .before .before .before .before .before .bucket .result) (now (s .args .heads)) (now (s .args .next)) (s .pre .1 .1 .0) (l .inv .1) (c .before .before .before .before .before .loop-test .taken) (none .0),
-      walk-next _ (2 * sideCount (now (s .args .sides))) (4096 + c .before .before .before .before .before .before .before .before .before .bucket2 .result) (now (s .args .heads)) (now (s .args .next)) (s .pre .1 .1 .0) (l .inv .2) (omega (arith, c .before .before .before .before .if1 .left)) (none .1),
+      walk-next _ (2 * sideCount (now (s .args .sides))) (bucketCount (now (s .args .heads)) + c .before .before .before .before .before .before .before .before .before .bucket2 .result) (now (s .args .heads)) (now (s .args .next)) (s .pre .1 .1 .0) (l .inv .2) (omega (arith, c .before .before .before .before .if1 .left)) (none .1),
     )
 
 same-length-3 : tie.Need-same-length-3 Inv-loop μ-loop
@@ -167,7 +161,7 @@ returns-3 c =
     let l = c .before .loop in
     rw (l .inv .0) (
       step-none (now (s .args .sides)) (now (s .args .old)),
-      mates-none (now (s .args .sides)) (now (s .args .old)) (now (s .args .new)) (s .args .t) (l .inv .1) (omega (arith, c .loop-test .left))
+      mates-none (bucketCount (now (s .args .heads))) (now (s .args .sides)) (now (s .args .old)) (now (s .args .new)) (s .args .t) (l .inv .1) (omega (arith, c .loop-test .left))
           (rw (c .before .before .before .before .before .before .before .bucket .ensures .0, c .before .before .before .before .before .before .before .before .before .before .flipped .ensures, c .before .before .before .before .before .before .before .before .before .before .before .select-of .ensures, c .before .before .before .before .before .before .before .before .before .output-of .ensures)),
     )
 
@@ -182,11 +176,9 @@ by-mates-spec =
     output-of-requires
     then-of-requires
     bucket-requires
-    cast-b
     lead-of-requires
     lead-of-requires-2
     bucket-requires-2
-    cast-d
     mul-m
     shared-slice-read-m
     cast-m

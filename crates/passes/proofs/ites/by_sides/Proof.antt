@@ -1,6 +1,6 @@
 -- `passes::ites::by_sides` meets its contract.
 -- Assumes nothing.
-use mathlib.Core.Path.{_∙_, ap}
+use mathlib.Core.Path.{_∙_, ap, sym}
 use Prim.Native.Nat.{ℕ}
 use lib.ListN.{replicate}
 use borrow.Author.Needs.{needs}
@@ -18,7 +18,8 @@ fill-requires-2 c κs = search needs
 chain-sides-requires : tie.Need-chain-sides-requires
 chain-sides-requires c κs =
     let s = c .before .before .before .before .before .before .before .before .before .before .before .before .before .before .before .before .pre in
-    (s .0 .room, (c .before .before .before .before .before .before .before .before .fill .ensures ∙ ap (λ (k : ℕ). replicate k 0) (s .1 .0 .0), s .1 .0 .1))
+    let f = c .before .before .before .before .before .before .before .before .fill in
+    (s .0 .room, ((rw (f .kept .0) (s .1 .0 .0), s .1 .0 .1), f .ensures ∙ ap (λ (k : ℕ). replicate k 0) (sym (f .kept .0))))
 
 by-selects-requires : tie.Need-by-selects-requires
 by-selects-requires c κs = c .before .before .before .before .before .before .before .before .before .before .before .before .before .before .before .before .before .before .before .before .before .before .pre .0
@@ -27,7 +28,7 @@ by-all-mates-requires : tie.Need-by-all-mates-requires
 by-all-mates-requires c κs =
     let s = c .before .before .before .before .before .before .before .before .before .before .before .before .before .before .before .before .before .before .before .before .before .before .before .before .before .before .before .before .pre in
     let h = c .before .before .before .before .before .before .before .before .before .before .before .chain-sides in
-    (ready-on _ _ (s .0) (c .before .before .before .before .before .by-selects .ensures .0), ((h .kept .1 .1 .0 ∙ c .before .before .before .before .before .before .before .before .before .before .before .before .before .before .before .before .before .before .before .before .fill .kept .0 ∙ s .1 .0 .0, h .kept .1 .1 .1 .0 ∙ s .1 .0 .1), h .ensures))
+    (ready-on _ _ (s .0) (c .before .before .before .before .before .by-selects .ensures .0), ((rw (h .kept .1 .1 .0 ∙ c .before .before .before .before .before .before .before .before .before .before .before .before .before .before .before .before .before .before .before .before .fill .kept .0) (s .1 .0 .0), h .kept .1 .1 .1 .0 ∙ s .1 .0 .1), h .ensures))
 
 match-all-requires : tie.Need-match-all-requires
 match-all-requires c κs =
@@ -36,7 +37,7 @@ match-all-requires c κs =
       ready-on _ _ (ready-on _ _ (s .0) (c .before .before .before .before .before .before .before .before .before .before .before .before .by-selects .ensures .0)) (c .before .before .before .before .before .before .by-all-mates .ensures .0),
       (
         slotted-none _ _ _ (c .before .before .before .before .before .before .before .before .before .before .before .before .before .before .before .before .before .before .before .before .before .before .before .fill2 .ensures ∙ ap (λ (k : ℕ). replicate k 0) (s .1 .1)),
-        ((h .kept .1 .1 .0 ∙ c .before .before .before .before .before .before .before .before .before .before .before .before .before .before .before .before .before .before .before .before .before .before .before .before .before .before .before .fill .kept .0 ∙ s .1 .0 .0, h .kept .1 .1 .1 .0 ∙ s .1 .0 .1), h .ensures),
+        ((rw (h .kept .1 .1 .0 ∙ c .before .before .before .before .before .before .before .before .before .before .before .before .before .before .before .before .before .before .before .before .before .before .before .before .before .before .before .fill .kept .0) (s .1 .0 .0), h .kept .1 .1 .1 .0 ∙ s .1 .0 .1), h .ensures),
       ),
     )
 

@@ -5,14 +5,14 @@ use mathlib.Core.Bool.{true, false, true≢false}
 use Prim.Native.Nat.{_+_, _*_, _-_, _/_}
 use native.Mathlib.Omega.{arith}
 use denote.Ref.{now}
-use Rattle.passes.specs.Sides.{sideCount, keyOf}
+use Rattle.passes.specs.Sides.{sideCount, bucketCount, keyOf}
 use Rattle.passes.proofs.SidePairs.{is-alike}
 use Rattle.gates.proofs.Chains.{Walk, walk-begin, walk-next, walk-falls}
 use Rattle.passes.proofs.ites.has_later.Statement.{statement}
 use Rattle.passes.proofs.ites.has_later.Tie as tie
 
 abbrev Inv-loop : tie.InvT-loop
-Inv-loop sides i heads next old m₀ m = Walk (keyOf sides old) (2 * sideCount sides) (keyOf sides old (2 * i + 1)) (λ k. Unit {0}) m
+Inv-loop sides i heads next old m₀ m = Walk (keyOf (bucketCount heads) sides old) (2 * sideCount sides) (keyOf (bucketCount heads) sides old (2 * i + 1)) (λ k. Unit {0}) m
 
 abbrev μ-loop : tie.MeasureT-loop
 μ-loop sides i heads next old m₀ m = m
@@ -24,13 +24,13 @@ add-key-of : tie.Need-add-key-of Inv-loop μ-loop
 add-key-of c = omega (arith, c .before .before .before .before .pre .1 .1 .1, c .before .before .before .before .pre .0)
 
 key-of-requires : tie.Need-key-of-requires Inv-loop μ-loop
-key-of-requires c κs = omega (arith, c .before .before .before .before .pre .1 .1 .1)
+key-of-requires c κs = (c .before .before .before .before .pre .1 .0 .0, omega (arith, c .before .before .before .before .pre .1 .1 .1))
 
 mul-m : tie.Need-mul-m Inv-loop μ-loop
-mul-m c = omega (arith, c .key-of .ensures .1)
+mul-m c = omega (arith, c .key-of .ensures .1, c .before .before .before .before .before .pre .1 .0 .0 .1)
 
 shared-slice-read-m : tie.Need-shared-slice-read-m Inv-loop μ-loop
-shared-slice-read-m c = omega (arith, c .before .key-of .ensures .1, c .before .before .before .before .before .before .pre .1 .0 .0)
+shared-slice-read-m c = omega (arith, c .before .key-of .ensures .1)
 
 cast-m : tie.Need-cast-m Inv-loop μ-loop
 cast-m c = omega (arith, c .shared-slice-known5 .given (c .before .key-of .result))
@@ -40,7 +40,7 @@ loop-holds c =
     let s = c .before .before .before .before .before .before in
     rw (c .before .key-of .ensures .0)
     (walk-begin _ (2 * sideCount (now (s .args .sides))) _ (now (s .args .heads)) (now (s .args .next)) (s .pre .1 .1 .0) _
-    (omega (arith, c .before .key-of .ensures .0, c .before .key-of .ensures .1, s .pre .1 .0 .0)))
+    (omega (arith, c .before .key-of .ensures .0, c .before .key-of .ensures .1)))
 
 mul-loop : tie.Need-mul-loop Inv-loop μ-loop
 mul-loop c = omega (arith, c .before .before .before .before .before .before .before .pre .1 .1 .1, c .before .before .before .before .before .before .before .pre .0)
@@ -80,13 +80,13 @@ cast-m-2 c = omega (arith, c .shared-slice-known6 .given (c .before .before .bef
 loop-less : tie.Need-loop-less Inv-loop μ-loop
 loop-less c =
     let s = c .before .before .before .before .before .before .before .before .before .before .before in
-    walk-falls _ (2 * sideCount (now (s .args .sides))) (keyOf (now (s .args .sides)) (now (s .args .old)) (2 * s .args .i + 1)) (now (s .args .heads)) (now (s .args .next)) (s .pre .1 .1 .0) (c .before .before .before .before .loop .inv)
+    walk-falls _ (2 * sideCount (now (s .args .sides))) (keyOf (bucketCount (now (s .args .heads))) (now (s .args .sides)) (now (s .args .old)) (2 * s .args .i + 1)) (now (s .args .heads)) (now (s .args .next)) (s .pre .1 .1 .0) (c .before .before .before .before .loop .inv)
     (omega (arith, c .before .before .before .loop-test .taken))
 
 loop-again : tie.Need-loop-again Inv-loop μ-loop
 loop-again c =
     let s = c .before .before .before .before .before .before .before .before .before .before .before in
-    walk-next _ (2 * sideCount (now (s .args .sides))) (keyOf (now (s .args .sides)) (now (s .args .old)) (2 * s .args .i + 1)) (now (s .args .heads)) (now (s .args .next)) (s .pre .1 .1 .0) (c .before .before .before .before .loop .inv)
+    walk-next _ (2 * sideCount (now (s .args .sides))) (keyOf (bucketCount (now (s .args .heads))) (now (s .args .sides)) (now (s .args .old)) (2 * s .args .i + 1)) (now (s .args .heads)) (now (s .args .next)) (s .pre .1 .1 .0) (c .before .before .before .before .loop .inv)
     (omega (arith, c .before .before .before .loop-test .taken)) tt
 
 returns-2 : tie.Need-returns-2 Inv-loop μ-loop

@@ -5,7 +5,7 @@ use Prim.Native.Nat.{_+_, _*_, _-_}
 use native.Mathlib.Omega.{arith}
 use lib.ListN.{length}
 use denote.Ref.{now}
-use Rattle.passes.specs.Sides.{sideCount, keyOf, Matching}
+use Rattle.passes.specs.Sides.{sideCount, bucketCount, keyOf, Matching}
 use Rattle.passes.proofs.SideSteps.{ready-on}
 use Rattle.passes.proofs.SideMatching.{matching-none, matching-then, GroupTo, group-begin, group-on, group-end}
 use Rattle.gates.proofs.Chains.{walk-falls}
@@ -14,7 +14,7 @@ use Rattle.passes.proofs.ites.match_likes.Tie as tie
 
 abbrev Inv-loop : tie.InvT-loop
 Inv-loop sides i heads next old slots₀ new₀ t₀ m₀ slots new t m =
-    (length new ≡ length new₀) × Matching sides old i slots₀ new₀ t₀ slots new t × GroupTo sides old slots new t (keyOf sides old (2 * i + 1)) i m
+    (length new ≡ length new₀) × Matching sides old i slots₀ new₀ t₀ slots new t × GroupTo (bucketCount heads) sides old slots new t (keyOf (bucketCount heads) sides old (2 * i + 1)) i m
 
 abbrev μ-loop : tie.MeasureT-loop
 μ-loop sides i heads next old slots₀ new₀ t₀ m₀ slots new t m = m
@@ -26,13 +26,13 @@ add-key-of : tie.Need-add-key-of Inv-loop μ-loop
 add-key-of c = omega (arith, c .before .before .before .before .before .before .pre .1 .1 .1 .1, c .before .before .before .before .before .before .pre .0 .room)
 
 key-of-requires : tie.Need-key-of-requires Inv-loop μ-loop
-key-of-requires c κs = omega (arith, c .before .before .before .before .before .before .pre .1 .1 .1 .1)
+key-of-requires c κs = (c .before .before .before .before .before .before .pre .1 .1 .0 .0, omega (arith, c .before .before .before .before .before .before .pre .1 .1 .1 .1))
 
 mul-m : tie.Need-mul-m Inv-loop μ-loop
-mul-m c = omega (arith, c .key-of .ensures .1)
+mul-m c = omega (arith, c .key-of .ensures .1, c .before .before .before .before .before .before .before .pre .1 .1 .0 .0 .1)
 
 shared-slice-read-m : tie.Need-shared-slice-read-m Inv-loop μ-loop
-shared-slice-read-m c = omega (arith, c .before .key-of .ensures .1, c .before .before .before .before .before .before .before .before .pre .1 .1 .0 .0)
+shared-slice-read-m c = omega (arith, c .before .key-of .ensures .1)
 
 cast-m : tie.Need-cast-m Inv-loop μ-loop
 cast-m c = omega (arith, c .shared-slice-known5 .given (c .before .key-of .result))
@@ -44,7 +44,7 @@ loop-holds c =
       matching-none _ _ (s .args .i) (s .pre .1 .0),
       rw (c .before .key-of .ensures .0)
           (group-begin (now (s .args .sides)) (now (s .args .old)) (now (s .args .heads)) (now (s .args .next)) (s .pre .1 .1 .1 .0) _ _ _ _ (s .args .i)
-          (omega (arith, c .before .key-of .ensures .0, c .before .key-of .ensures .1, s .pre .1 .1 .0 .0))),
+          (omega (arith, c .before .key-of .ensures .0, c .before .key-of .ensures .1))),
     )
 
 sub-match-alike : tie.Need-sub-match-alike Inv-loop μ-loop
@@ -71,7 +71,7 @@ cast-m-2 c = omega (arith, c .shared-slice-known6 .given (c .before .before .bef
 loop-less : tie.Need-loop-less Inv-loop μ-loop
 loop-less c =
     let s = c .before .before .before .before .before .before .before .before .before .before .before .before .before .before .before .before .before .before in
-    walk-falls _ (2 * sideCount (now (s .args .sides))) (keyOf (now (s .args .sides)) (now (s .args .old)) (2 * s .args .i + 1)) (now (s .args .heads)) (now (s .args .next)) (s .pre .1 .1 .1 .0)
+    walk-falls _ (2 * sideCount (now (s .args .sides))) (keyOf (bucketCount (now (s .args .heads))) (now (s .args .sides)) (now (s .args .old)) (2 * s .args .i + 1)) (now (s .args .heads)) (now (s .args .next)) (s .pre .1 .1 .1 .0)
     (c .before .before .before .before .before .before .before .before .before .loop .inv .2) (c .before .before .before .before .before .before .before .before .loop-test .taken)
 
 loop-again : tie.Need-loop-again Inv-loop μ-loop

@@ -5,7 +5,7 @@ use Prim.Native.Nat.{_*_, _-_}
 use native.Mathlib.Omega.{arith}
 use lib.ListN.{length}
 use denote.Ref.{now}
-use Rattle.passes.specs.Sides.{sideCount, Matching}
+use Rattle.passes.specs.Sides.{sideCount, Matching, bucketCount}
 use Rattle.passes.proofs.SideSteps.{ready-on}
 use Rattle.passes.proofs.SideMatching.{matching-none, matching-then, MatesTo, mates-begin, mates-on, mates-end}
 use Rattle.gates.proofs.Chains.{walk-falls}
@@ -13,7 +13,7 @@ use Rattle.passes.proofs.ites.match_side.Statement.{statement}
 use Rattle.passes.proofs.ites.match_side.Tie as tie
 
 abbrev Inv-loop : tie.InvT-loop
-Inv-loop sides k heads next old slots₀ new₀ t₀ b m₀ slots new t m = (length new ≡ length new₀) × Matching sides old k slots₀ new₀ t₀ slots new t × MatesTo sides old slots new t b k m
+Inv-loop sides k heads next old slots₀ new₀ t₀ b m₀ slots new t m = (length new ≡ length new₀) × Matching sides old k slots₀ new₀ t₀ slots new t × MatesTo (bucketCount heads) sides old slots new t b k m
 
 abbrev μ-loop : tie.MeasureT-loop
 μ-loop sides k heads next old slots₀ new₀ t₀ b m₀ slots new t m = m
@@ -28,22 +28,19 @@ output-of-requires : tie.Need-output-of-requires Inv-loop μ-loop
 output-of-requires c κs = c .before .before .before .before .before .before .before .before .pre .1 .1 .1 .1
 
 bucket-requires : tie.Need-bucket-requires Inv-loop μ-loop
-bucket-requires c κs = tt
-
-cast-b : tie.Need-cast-b Inv-loop μ-loop
-cast-b c = omega (arith, c .bucket .ensures .1)
+bucket-requires c κs = c .before .before .before .before .before .before .before .before .before .pre .1 .1 .0 .0 .0
 
 mul-m : tie.Need-mul-m Inv-loop μ-loop
-mul-m c = omega (arith, c .bucket .ensures .1)
+mul-m c = omega (arith, c .bucket .ensures .1, c .before .before .before .before .before .before .before .before .before .before .pre .1 .1 .0 .0 .1)
 
 shared-slice-read-m : tie.Need-shared-slice-read-m Inv-loop μ-loop
-shared-slice-read-m c = omega (arith, c .before .bucket .ensures .1, c .before .before .before .before .before .before .before .before .before .before .before .pre .1 .1 .0 .0)
+shared-slice-read-m c = omega (arith, c .before .bucket .ensures .1)
 
 cast-m : tie.Need-cast-m Inv-loop μ-loop
 cast-m c = omega (arith, c .shared-slice-known5 .given (c .before .bucket .result))
 
 loop-holds : tie.Need-loop-holds Inv-loop μ-loop
-loop-holds c = (refl, matching-none _ _ (c .before .before .before .before .before .before .before .before .before .before .before .args .k) (c .before .before .before .before .before .before .before .before .before .before .before .pre .1 .0), mates-begin (now (c .before .before .before .before .before .before .before .before .before .before .before .args .sides)) (now (c .before .before .before .before .before .before .before .before .before .before .before .args .old)) (now (c .before .before .before .before .before .before .before .before .before .before .before .args .heads)) (now (c .before .before .before .before .before .before .before .before .before .before .before .args .next)) (c .before .before .before .before .before .before .before .before .before .before .before .pre .1 .1 .1 .0) _ _ _ (c .before .bucket .result) _ (omega (arith, c .before .bucket .ensures .1, c .before .before .before .before .before .before .before .before .before .before .before .pre .1 .1 .0 .0)))
+loop-holds c = (refl, matching-none _ _ (c .before .before .before .before .before .before .before .before .before .before .before .args .k) (c .before .before .before .before .before .before .before .before .before .before .before .pre .1 .0), mates-begin (now (c .before .before .before .before .before .before .before .before .before .before .before .args .sides)) (now (c .before .before .before .before .before .before .before .before .before .before .before .args .old)) (now (c .before .before .before .before .before .before .before .before .before .before .before .args .heads)) (now (c .before .before .before .before .before .before .before .before .before .before .before .args .next)) (c .before .before .before .before .before .before .before .before .before .before .before .pre .1 .1 .1 .0) _ _ _ (c .before .bucket .result) _ (omega (arith, c .before .bucket .ensures .1)))
 
 sub-try-pair : tie.Need-sub-try-pair Inv-loop μ-loop
 sub-try-pair c = omega (arith, c .loop-test .taken)
@@ -88,7 +85,6 @@ match-side-spec =
     flipped-requires
     output-of-requires
     bucket-requires
-    cast-b
     mul-m
     shared-slice-read-m
     cast-m

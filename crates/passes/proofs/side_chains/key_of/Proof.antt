@@ -16,11 +16,10 @@ output-of-requires c κs = search needs
 bucket-requires : tie.Need-bucket-requires
 bucket-requires c κs = search needs
 
-cast-result : tie.Need-cast-result
-cast-result c = search needs
-
 returns : tie.Need-returns
-returns c = (rw (c .bucket .ensures .0, c .before .before .before .select-of .ensures, c .before .output-of .ensures) (even-key (now (c .before .before .before .before .before .before .args .sides)) (now (c .before .before .before .before .before .before .args .old)) (c .before .before .before .before .before .before .args .m) (c .before .before .if1 .taken)), omega (arith, c .bucket .ensures .1))
+returns c =
+    let a = c .before .before .before .before .before .before .args in
+    (rw (c .bucket .ensures .0, c .before .before .before .select-of .ensures, c .before .output-of .ensures) (even-key (a .m) (now (a .sides)) (now (a .old)) (a .k) (c .before .before .if1 .taken)), omega (arith, c .bucket .ensures .1))
 
 lead-of-requires : tie.Need-lead-of-requires
 lead-of-requires c κs = search needs
@@ -34,14 +33,16 @@ lead-of-requires-2 c κs = search needs
 bucket-requires-2 : tie.Need-bucket-requires-2
 bucket-requires-2 c κs = search needs
 
-cast-result-2 : tie.Need-cast-result-2
-cast-result-2 c = search needs
-
 add-result : tie.Need-add-result
 add-result c = search needs
 
 returns-2 : tie.Need-returns-2
-returns-2 c = (rw (c .bucket2 .ensures .0, c .before .before .before .lead-of .ensures, c .before .lead-of2 .ensures, c .before .before .before .before .before .select-of .ensures, c .before .before .then-of .ensures) (odd-key (now (c .before .before .before .before .before .before .before .before .args .sides)) (now (c .before .before .before .before .before .before .before .before .args .old)) (c .before .before .before .before .before .before .before .before .args .m) (c .before .before .before .before .if1 .left)), omega (arith, c .bucket2 .ensures .1))
+returns-2 c =
+    let a = c .before .before .before .before .before .before .before .before .args in (
+      rw (c .bucket2 .ensures .0, c .before .before .before .lead-of .ensures, c .before .lead-of2 .ensures, c .before .before .before .before .before .select-of .ensures, c .before .before .then-of .ensures)
+          (odd-key (a .m) (now (a .sides)) (now (a .old)) (a .k) (c .before .before .before .before .if1 .left)),
+      omega (arith, c .bucket2 .ensures .1),
+    )
 
 pub key-of-spec : {M : Type 1} → statement M
 key-of-spec =
@@ -50,12 +51,10 @@ key-of-spec =
     select-of-requires
     output-of-requires
     bucket-requires
-    cast-result
     returns
     lead-of-requires
     then-of-requires
     lead-of-requires-2
     bucket-requires-2
-    cast-result-2
     add-result
     returns-2)
