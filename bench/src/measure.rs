@@ -13,8 +13,8 @@ use tools::{Kind, Tool};
 const ENOUGH: f64 = 1_500.0;
 
 /// A tool that has taken less than this is run up to `QUICK_RUNS` times as often.
-const QUICK: f64 = 100.0;
-const QUICK_RUNS: usize = 4;
+const QUICK: f64 = 600.0;
+const QUICK_RUNS: usize = 10;
 
 /// The name of the list with nothing to do.
 const EMPTY: &str = "empty";

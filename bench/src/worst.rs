@@ -10,6 +10,7 @@ pub fn lists() -> Vec<(&'static str, List)> {
         ("ANDs over 26 nets", largest(ands_over_few)),
         ("four wide ANDs, inputs true one by one", largest(wide_ands)),
         ("chain of units", largest(unit_chain)),
+        ("chain of ANDs whose lead falls", largest(falling_leads)),
         ("multiplexers on one select", largest(one_select)),
         ("one net in every clause", largest(one_net)),
     ]
@@ -65,6 +66,16 @@ fn wide_ands(n: usize) -> List {
 
 fn unit_chain(n: usize) -> List {
     List { nets: n, clauses: chain(1..=n as i32) }
+}
+
+/// Each of n nets is the AND of the next one and another net, and the last two are equal: in each round the lowest net of the
+/// group is a new one, so that all its nets get another lead.
+fn falling_leads(n: usize) -> List {
+    let (last, other) = (n as i32 + 2, n as i32 + 3);
+    let and = |o: i32| [vec![-o, o + 1], vec![-o, other], vec![o, -o - 1, -other]];
+    let mut clauses: Vec<_> = (1..last).flat_map(and).collect();
+    clauses.extend([vec![last, 1 - last], vec![-last, last - 1]]);
+    List { nets: n + 3, clauses }
 }
 
 /// Each of n multiplexers on net 1 takes the one before it, and its like in the other half of them.

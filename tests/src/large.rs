@@ -3,13 +3,14 @@
 use crate::lists::{and_clauses, ite_clauses, longest, miter, pins, signed, xor_clauses, Kind, List};
 use crate::random::Random;
 
-pub const LARGE: [Kind; 6] = [
+pub const LARGE: [Kind; 7] = [
     Kind { name: "limits", make: limits },
     Kind { name: "circuits", make: circuits },
     Kind { name: "ladders", make: ladders },
     Kind { name: "cliques", make: cliques },
     Kind { name: "many xors", make: many_xors },
     Kind { name: "halves", make: halves },
+    Kind { name: "chains of ands", make: and_chains },
 ];
 
 /// Made once in a run.
@@ -112,6 +113,25 @@ fn halves(r: &mut Random) -> List {
     clauses.extend(and_clauses(p[3], &p[4..9]));
     clauses.extend((0..r.below(3)).map(|_| pins(nets, 1, r)));
     List { nets, clauses }
+}
+
+/// Two chains of ANDs in which each pair of nets that is joined makes the next pair alike. In the first the lowest net comes
+/// last, so that all nets of the group get another lead in each round; in the second it comes first. Other ANDs take the
+/// last nets of that one.
+fn and_chains(r: &mut Random) -> List {
+    let (falling, rising) = (r.between(230, 300) as i64, r.between(200, 260) as i64);
+    let late = r.between(3, 60) as i64;
+    let first = falling + 1;
+    let last = first + rising;
+    let (a, b, c) = (last + 1, last + 2, last + 3);
+    let mut clauses: Vec<Vec<i64>> = (1..falling).flat_map(|i| and_clauses(i, &[i + 1, a])).collect();
+    clauses.extend((first..last).flat_map(|i| and_clauses(i + 1, &[i, b])));
+    clauses.extend((0..late).flat_map(|i| and_clauses(c + 1 + i, &[last - i, c])));
+    for (x, y) in [(falling - 1, falling), (first, first + 1)] {
+        clauses.extend([vec![x, -y], vec![-x, y]]);
+    }
+    r.shuffle(&mut clauses);
+    List { nets: (c + late) as usize, clauses }
 }
 
 /// Over a million multiplexers: each of 1,022 nets on either side of one select and one output.
