@@ -47,14 +47,14 @@ module _ (marked : List ℕ) (w v : ℕ) where
       go (yes e) (no l) = absurd (h (rw e (List·getD-eq-default marked 0 (omega arith))))
       go (no d) l = mark-other x d h
 
--- a net that is put up to be looked for
+-- a net that is sought from now on
 pub mark-put : (marked : List ℕ) (w : ℕ) → w < length marked → Keeps marked (set marked w 1) × HasMark (set marked w 1) w
 mark-put marked w h = (mark-keeps marked w 1 (λ e. omega arith), mark-here marked w 1 h (λ e. omega arith))
 
 pub mark-outside : (marked : List ℕ) (w : ℕ) → length marked ≤ w → ¬ HasMark marked w
 mark-outside marked w h m = m (List·getD-eq-default marked 0 h)
 
--- .. and one that has been looked for
+-- .. and one that is sought no more
 module _ (marked : List ℕ) (w : ℕ) where
   pub mark-gone : ¬ HasMark (set marked w 0) w
   mark-gone m = go (decLt w (length marked))
@@ -323,7 +323,7 @@ module _ (codes marks starts older old : List ℕ) (listed : Listed codes marks 
         let e = listed-start codes marks starts listed d q l in
         moved-seen d q l m .touches p (omega (arith, k .low)) (subst⁻¹ (λ (i : ℕ). p < i + length (clauseAt codes i)) e (k .high))
 
-    -- the net that is not looked for
+    -- the net that is not sought
     abbrev skipped : (d : ℕ) → ChangedIn (TiedAt codes marks) codes older old d → ℕ
     skipped d s = moved-seen d (s .place) (s .at .at) (s .moved) .skip
 
@@ -339,7 +339,7 @@ module _ (codes marks starts older old : List ℕ) (listed : Listed codes marks 
         let h = read-at d (s .place) (s .at) in
         touched-at d (s .place) p (h .0) (s .moved) (k .at) .select (read-is starts (s .place) (h .1)) (listed-select codes marks starts listed d p (k .at) k)
 
-    -- a place that is due and has the lead of a clause that is copied is seen, if the net of that lead is looked for
+    -- a place that is due and has the lead of a clause that is copied is seen, if the net of that lead is sought
     module _ {part tags : List ℕ} {n : ℕ} (taken : Taken codes marks seen part tags n) (room : n ≤ length part)
         (last : List ℕ) (keeps : Keeps seen last) (all : SeesSought codes starts old touched sought part n last) where
       due-seen : (b q d p : ℕ) → LiteralAt codes b q → LiteralAt codes d p → HasMark seen d → net (leadAt codes old q) ≡ net (leadAt codes old p)

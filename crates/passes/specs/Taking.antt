@@ -42,7 +42,7 @@ isTouched touched skip n = not (eqb n 0) && (not (eqb n skip) && not (eqb (getD 
 abbrev pub asSelect : ℕ → ℕ
 asSelect n = maxNets + 1 + n
 
--- net n is touched for a place that is this to its gates, where ties count, and selects do; it is to be looked for, unless it is tied and `skip`
+-- net n is touched for a place that is this to its gates, where ties count, and selects do; it is sought, unless it is tied and `skip`
 pub record TouchedBy (ties sides : Bool) (tie skip : ℕ) (touched sought : List ℕ) (n : ℕ) : Type 0 where
   pub tied : ties ≡ true → tie % 2 ≡ 1 → HasMark touched n × (n ≢ skip → HasMark sought n)
   pub select : sides ≡ true → tie / 2 % 2 ≡ 1 → HasMark touched n × HasMark touched (asSelect n) × HasMark sought n
@@ -59,8 +59,8 @@ isTied starts q = eqb (getD starts q 0 % 2) 1
 unfoldable pub isRead : List ℕ → ℕ → Bool
 isRead starts q = ltb 1 (tieAt starts q)
 
--- the clause of place q, whose lead has changed, is seen if that tells anything, and its leads are touched and to be looked for, but for those of
--- one net: a clause that shares two of them with it is found by the other one
+-- the clause of place q, whose lead has changed, is seen if that tells anything, and its leads are touched and sought, but for those of one net:
+-- a clause that shares two of them with it is found by the other one
 pub record SeesPlace (codes starts old seen touched sought : List ℕ) (q : ℕ) : Type 0 where
   pub told : (tieAt starts q ≢ 0) ⊎ (net (leadAt codes old q) ≡ 0) → HasMark seen (startAt starts q)
   pub skip : ℕ
@@ -90,7 +90,7 @@ abbrev pub SeesDue : List ℕ → List ℕ → List ℕ → List ℕ → ℕ →
 SeesDue codes starts old touched w seen =
     (q : ℕ) → q < length codes → getD codes q 0 ≢ 0 → net (leadAt codes old q) ≡ w → Due codes starts old touched q → HasMark seen (startAt starts q)
 
--- .. of the nets of leads at the first m places of the part that are to be looked for
+-- .. of the nets of leads at the first m places of the part that are sought
 abbrev pub SeesSought : List ℕ → List ℕ → List ℕ → List ℕ → List ℕ → List ℕ → ℕ → List ℕ → Type 0
 SeesSought codes starts old touched sought part m seen =
     (i : ℕ) → i < m → HasMark sought (net (leadAt part old i)) → SeesDue codes starts old touched (net (leadAt part old i)) seen

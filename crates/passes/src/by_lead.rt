@@ -16,7 +16,7 @@ use gates::chain::link;
 use gates::fill::fill;
 use gates::walk::literal;
 
-// Enters place q, of a literal with this lead, if there is room and a gate ties it or it is that of a select.
+// Enters place q by the net of its lead, if a gate ties it or it is that of a select, and if there is room.
 fn enter_place(
     codes: &[u32],
     starts: &[u32],
@@ -99,7 +99,7 @@ pub fn enter_all(
     }
 }
 
-// Enters all places anew if there was no room left.
+// Enters all places anew if no room is left, as some may be missing.
 pub fn enter_missing(
     codes: &[u32],
     starts: &[u32],

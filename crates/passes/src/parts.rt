@@ -311,7 +311,7 @@ fn take_due_chain(
     n
 }
 
-// Takes the clauses that are due for the lead at place i of the part, if its net is still to be looked for.
+// Takes the clauses that are due for the lead at place i of the part, if its net is still sought.
 fn take_sought(
     codes: &[u32],
     marks: &[u8],

@@ -1,4 +1,4 @@
-// The nets whose leads have changed, and the leads that changed clauses have: these are touched, and clauses that have them may be due.
+// The nets whose leads have changed, and the leads that changed clauses have: these are touched, and clauses that have them may be due. Those that other clauses are found by are sought.
 
 ghost use mathlib.Core.Path.{_≡_};
 ghost use mathlib.Core.Logic.{_≢_};
@@ -88,7 +88,7 @@ fn counts(on: bool, x: u32) -> bool
     false
 }
 
-// Touches net n for a tie, and puts it up to be looked for, unless it is `skip`.
+// Touches net n for a tie; it is sought too, unless it is `skip`.
 fn touch_tied(touched: &mut [u8], sought: &mut [u8], n: usize, skip: usize)
     requires { ⌜ (asSelect n < length (now touched)) × (n < length (now sought)) ⌝ }
     ensures { λ _. ⌜ Keeps (now (touched .entry)) (now (touched .exit)) × Keeps (now (sought .entry)) (now (sought .exit)) ⌝ }
@@ -100,7 +100,7 @@ fn touch_tied(touched: &mut [u8], sought: &mut [u8], n: usize, skip: usize)
     }
 }
 
-// Touches net n as a select, and puts it up to be looked for.
+// Touches net n as a select; it is sought too.
 fn touch_select(touched: &mut [u8], sought: &mut [u8], n: usize)
     requires { ⌜ (asSelect n < length (now touched)) × (n < length (now sought)) ⌝ }
     ensures { λ _. ⌜ Keeps (now (touched .entry)) (now (touched .exit)) × Keeps (now (sought .entry)) (now (sought .exit)) ⌝ }
