@@ -43,9 +43,9 @@ const LEAD_ENTRIES: usize = MAX_ENTRIES + 1;
 
 const HEADS: usize = 8192;
 
-const LINKS: usize = 4 * MAX_ENTRIES;
+const LINKS: usize = 3 * MAX_ENTRIES;
 
-const SIDES: usize = 6 * MAX_ENTRIES;
+const SIDES: usize = 9 * MAX_ENTRIES / 2;
 
 // How closing ends, the numbers of gates, and the groups left.
 pub struct Summary {

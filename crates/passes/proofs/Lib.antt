@@ -17,6 +17,7 @@ pub mod AndClashes
 pub mod AndOutputs
 pub mod SidePairs
 pub mod SideRows
+pub mod SideCounts
 pub mod AndSets
 pub mod AndPairs
 pub mod Maps

@@ -17,7 +17,7 @@ use Rattle.gates.specs.Found.{LiteralAt, around, isSelectNext, isSelectAfter}
 use Rattle.gates.proofs.Rows.{literal-some, starts-apart}
 use Rattle.passes.specs.Marked.{Marked}
 use Rattle.passes.specs.Parts.{Ended}
-use Rattle.passes.specs.Sides.{sideCount, selectAt, outputAt, thenAt, Side, Listed, AreSides, Sides, ListsMarked, ListedAt, More, put}
+use Rattle.passes.specs.Sides.{sideCount, selectAt, outputAt, thenAt, Side, Listed, AreSides, Sides, ListsMarked, ListedAt, InThree, More, put}
 
 module _ (sides : List ℕ) (n c l t : ℕ) where
   put-before : (i : ℕ) → i < 3 * n → getD (put sides n c l t) i 0 ≡ getD sides i 0
@@ -169,10 +169,14 @@ module _ {cs : List (List ℕ)} {row marks : List ℕ} (f : Marked cs row marks)
               fourth : (y : ℕ) → y / 2 ≡ 2 * (2 * (y / 4 / 2)) → y / 2 % 4 ≡ 0
               fourth y e = rw e (omega arith)
 
-  -- the other two places of a clause with a mark
+  -- a clause with a mark has three literals
+  pub marked-three : getD marks p 0 / 2 % 4 ≢ 0 → InThree row b p
+  marked-three n = (l, f .select-three b p l (mark-cases n))
+
+  -- its other two places
   pub next-inside : getD marks p 0 / 2 % 4 ≢ 0 → (next < length row) × (after < length row)
   next-inside n =
-      let e = f .select-three b p l (mark-cases n) in
+      let e = marked-three n .1 in
       let i = f .ended b (l .start) in
       let u = around-in b p (l .low) (omega (arith, l .high)) in
       let v = around-in b next (u .0) (u .1) in
@@ -197,7 +201,7 @@ module _ {cs : List (List ℕ)} {row marks : List ℕ} (f : Marked cs row marks)
       }
 
   -- both have been put
-  module _ (sides : List ℕ) (n : ℕ) (room : 3 * n + 6 ≤ length sides) where
+  module _ (three : InThree row b p) (sides : List ℕ) (n : ℕ) (room : 3 * n + 6 ≤ length sides) where
     abbrev x : ℕ
     x = getD row p 0
 
@@ -227,10 +231,10 @@ module _ {cs : List (List ℕ)} {row marks : List ℕ} (f : Marked cs row marks)
         marked-are first count (negate x) (negate z) y second-room (isSelectAfter (getD marks p 0))
         (marked-are sides n (negate x) (negate y) z (omega arith) (isSelectNext (getD marks p 0)) are (f .next-is b p l)) (f .after-is b p l)
 
-    both-more : More sides n both total
+    both-more : More row b p sides n both total
     both-more =
         record {
-          few = omega (arith, marked-few (isSelectNext (getD marks p 0)) n count refl, marked-few (isSelectAfter (getD marks p 0)) count total refl);
+          few = inr (three, omega (arith, marked-few (isSelectNext (getD marks p 0)) n count refl, marked-few (isSelectAfter (getD marks p 0)) count total refl));
           kept = λ o c t h.
               marked-kept (isSelectAfter (getD marks p 0)) first count (negate x) (negate z) y o c t
               (marked-kept (isSelectNext (getD marks p 0)) sides n (negate x) (negate y) z o c t h);
@@ -251,7 +255,7 @@ module _ {cs : List (List ℕ)} {row marks : List ℕ} (f : Marked cs row marks)
         → u ≡ cond (isSelectNext (getD marks p 0)) (put sides n (negate x) (negate (getD row i 0)) (getD row j 0)) sides
         → k ≡ cond (isSelectAfter (getD marks p 0)) (m + 1) m
         → v ≡ cond (isSelectAfter (getD marks p 0)) (put u m (negate x) (negate (getD row j 0)) (getD row i 0)) u
-        → (AreSides cs sides n → AreSides cs v k) × (More sides n v k × ListedAt row marks v k p)
+        → (AreSides cs sides n → AreSides cs v k) × (More row b p sides n v k × ListedAt row marks v k p)
     both-put i j ei ej m k u v em eu ek ev = rw (ev, ek, eu, em, ej, ei) (both-are, (both-more, both-listed))
 
 -- where no literal is there is no side
@@ -261,11 +265,11 @@ module _ (row marks sides : List ℕ) (n : ℕ) where
   none-at-end p e =
       record { next = λ d k m. absurd (literal-some row d p (k .low) (k .high) e); after = λ d k m. absurd (literal-some row d p (k .low) (k .high) e) }
 
-  pub more-none : More sides n sides n
-  more-none = record { few = omega arith; kept = λ l c t h. h }
+  pub more-none : {b p : ℕ} → More row b p sides n sides n
+  more-none = record { few = inl refl; kept = λ l c t h. h }
 
   -- one place more
-  pub listed-more : {sides′ : List ℕ} {n′ p : ℕ} → ((q : ℕ) → q < p → ListedAt row marks sides n q) → More sides n sides′ n′ → ListedAt row marks sides′ n′ p
+  pub listed-more : {sides′ : List ℕ} {n′ p b : ℕ} → ((q : ℕ) → q < p → ListedAt row marks sides n q) → More row b p sides n sides′ n′ → ListedAt row marks sides′ n′ p
       → (q : ℕ) → q < p + 1 → ListedAt row marks sides′ n′ q
   listed-more {sides′} {n′} {p} h m here q l = go (ℕ-discrete q p)
     where

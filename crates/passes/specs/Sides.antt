@@ -1,7 +1,7 @@
 -- The sides of ITEs in a row of their own, and how a round walks the pairs of them that make ITEs. Only inner contracts cite these.
 -- Assumes nothing.
 use mathlib.Core.Path.{_≡_}
-use mathlib.Core.Logic.{_≢_}
+use mathlib.Core.Logic.{_≢_, _⊎_}
 use mathlib.Core.Bool.{Bool, true, false, not, cond, _&&_}
 use mathlib.Core.List.{List}
 use Prim.Native.Nat.{ℕ, suc, _+_, _-_, _*_, _/_, _%_, _≤_, _<_}
@@ -11,15 +11,15 @@ use Rattle.clauses.specs.Limit.{maxNets, maxEntries}
 use Rattle.clauses.specs.Code.{negate, net}
 use Rattle.clauses.specs.Listing.{Fits}
 use Rattle.gates.specs.Gate.{IteGate}
-use Rattle.gates.specs.Found.{LiteralAt, around, isSelectNext, isSelectAfter}
+use Rattle.gates.specs.Found.{clauseAt, LiteralAt, around, isSelectNext, isSelectAfter}
 use Rattle.rules.specs.Answer.{leadOf}
 use Rattle.passes.specs.Making.{Kernel, Making, JoinedBy, Later}
 use Rattle.passes.specs.RowJoined.{SideAt}
 use Rattle.passes.specs.declared.tally.Tally.{Tally}
 
--- at most two sides for each place
+-- at most two sides for each literal of a clause of three literals, which takes four entries
 abbrev pub maxSides : ℕ
-maxSides = 2 * maxEntries
+maxSides = 6 * (maxEntries / 4)
 
 -- The row of sides: for each its select c, its output l and its literal t
 
@@ -72,9 +72,13 @@ pub record ListedAt (row marks sides : List ℕ) (n p : ℕ) : Type 0 where
   pub after : (b : ℕ) → LiteralAt row b p → isSelectAfter (getD marks p 0) ≡ true
       → Listed sides n (negate (getD row (around b (around b p)) 0)) (negate (getD row p 0)) (getD row (around b p) 0)
 
--- what was listed still is, and at most two sides have been added
-pub record More (sides : List ℕ) (n : ℕ) (sides′ : List ℕ) (n′ : ℕ) : Type 0 where
-  pub few : n′ ≤ n + 2
+-- place p holds a literal of the clause that starts at b, which has three
+abbrev pub InThree : List ℕ → ℕ → ℕ → Type 0
+InThree row b p = LiteralAt row b p × (length (clauseAt row b) ≡ 3)
+
+-- what was listed still is, and place p of the clause at b has added no side, or at most two if the clause has three literals
+pub record More (row : List ℕ) (b p : ℕ) (sides : List ℕ) (n : ℕ) (sides′ : List ℕ) (n′ : ℕ) : Type 0 where
+  pub few : (n′ ≡ n) ⊎ (InThree row b p × (n′ ≤ n + 2))
   pub kept : (l c t : ℕ) → Listed sides n l c t → Listed sides′ n′ l c t
 
 -- Pairs of sides

@@ -1,16 +1,17 @@
 // The sides of the ITEs, listed from the finder's marks in a row of their own: three entries for each.
 
 ghost use mathlib.Core.Path.{_≡_};
+ghost use mathlib.Core.Logic.{_≢_, _⊎_};
 ghost use mathlib.Core.Bool.{cond};
 ghost use mathlib.Core.List.{List};
 ghost use Prim.Native.Nat.{ℕ, _+_, _*_, _≤_, _<_};
-ghost use lib.ListN.{length};
+ghost use lib.ListN.{length, getD};
 ghost use Rattle.clauses.specs.Limit.{maxEntries};
 ghost use Rattle.clauses.specs.Code.{negate};
 ghost use Rattle.gates.specs.Found.{around};
 ghost use Rattle.passes.specs.Passing.{Reached};
 ghost use Rattle.passes.specs.Marked.{Marked, MarkedOfSome};
-ghost use Rattle.passes.specs.Sides.{maxSides, sideCount, selectAt, outputAt, thenAt, AreSides, ListedAt, More, put};
+ghost use Rattle.passes.specs.Sides.{maxSides, sideCount, selectAt, outputAt, thenAt, AreSides, ListedAt, InThree, More, put};
 use crate::sign::flipped;
 
 // The place after p in the clause of three literals at b, the first one coming after the last.
@@ -51,9 +52,9 @@ fn put_marked(marked: bool, sides: &mut [u32], n: usize, x: u32, y: u32, z: u32)
 fn put_sides(codes: &[u32], marks: &[u8], b: usize, p: usize, sides: &mut [u32], n: usize) -> usize
     requires { ⌜ MarkedOfSome (now codes) (now marks) ⌝ }
     requires { ⌜ Reached (now codes) b p × (p < length (now codes)) ⌝ }
-    requires { ⌜ (length (now codes) ≤ maxEntries) × (3 * n + 6 ≤ length (now sides)) ⌝ }
+    requires { ⌜ (length (now codes) ≤ maxEntries) × (InThree (now codes) b p → 3 * n + 6 ≤ length (now sides)) ⌝ }
     ensures { λ r. ⌜ ((cs : List (List ℕ)) → Marked cs (now (codes .entry)) (now (marks .entry)) → AreSides cs (now (sides .entry)) n → AreSides cs (now (sides .exit)) r) ⌝ }
-    ensures { λ r. ⌜ More (now (sides .entry)) n (now (sides .exit)) r ⌝ }
+    ensures { λ r. ⌜ More (now (codes .entry)) b p (now (sides .entry)) n (now (sides .exit)) r ⌝ }
     ensures { λ r. ⌜ ListedAt (now (codes .entry)) (now (marks .entry)) (now (sides .exit)) r p ⌝ }
 {
     if codes[p] == 0 {
@@ -76,6 +77,7 @@ fn put_sides(codes: &[u32], marks: &[u8], b: usize, p: usize, sides: &mut [u32],
 fn next_start(codes: &[u32], b: usize, p: usize) -> usize
     requires { ⌜ Reached (now codes) b p × (p < length (now codes)) ⌝ }
     ensures { λ r. ⌜ Reached (now (codes .entry)) r (p + 1) ⌝ }
+    ensures { λ r. ⌜ ((getD (now (codes .entry)) p 0 ≡ 0) × (r ≡ p + 1)) ⊎ ((getD (now (codes .entry)) p 0 ≢ 0) × (r ≡ b)) ⌝ }
 {
     if codes[p] == 0 {
         return p + 1;

@@ -7,7 +7,7 @@ use lib.ListN.{length}
 use denote.Ref.{now}
 use Rattle.gates.specs.Chains.{Chained}
 use Rattle.gates.proofs.Chains.{chain-none, chain-linked}
-use Rattle.passes.specs.Sides.{sideCount, keyOf}
+use Rattle.passes.specs.Sides.{maxSides, sideCount, keyOf}
 use Rattle.passes.proofs.side_chains.chain_sides.Statement.{statement}
 use Rattle.passes.proofs.side_chains.chain_sides.Tie as tie
 
@@ -27,7 +27,7 @@ key-of-requires : tie.Need-key-of-requires Inv-loop μ-loop
 key-of-requires c κs = (c .before .before .before .before .before .before .pre .1 .0 .0, c .loop-test .taken)
 
 -- the links that are there
-next-size : (c : tie.In-loop Inv-loop μ-loop) → length (c .before .loop .next) ≡ 65536
+next-size : (c : tie.In-loop Inv-loop μ-loop) → length (c .before .loop .next) ≡ 2 * maxSides
 next-size c = c .before .loop .inv .1 ∙ c .before .before .before .before .before .before .pre .1 .0 .1
 
 link-requires : tie.Need-link-requires Inv-loop μ-loop

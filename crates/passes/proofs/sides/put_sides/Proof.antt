@@ -1,12 +1,14 @@
 -- `passes::sides::put_sides` meets its contract.
 -- Assumes nothing.
+use Prim.Native.Nat.{_+_, _*_, _≤_}
 use native.Mathlib.Omega.{arith}
 use borrow.Author.Needs.{needs}
-use lib.ListN.{getD}
+use lib.ListN.{length, getD}
 use denote.Ref.{now}
 use Rattle.gates.specs.Found.{isSelectNext, isSelectAfter}
+use Rattle.passes.specs.Sides.{InThree}
 use Rattle.passes.proofs.Walking.{reached-literal}
-use Rattle.passes.proofs.SideRows.{next-inside, none-marked, none-at-end, more-none, marked-few, both-put}
+use Rattle.passes.proofs.SideRows.{marked-three, next-inside, none-marked, none-at-end, more-none, marked-few, both-put}
 use Rattle.passes.proofs.sides.put_sides.Statement.{statement}
 use Rattle.passes.proofs.sides.put_sides.Tie as tie
 
@@ -49,12 +51,20 @@ mul-z c = let h = next-inside (c .before .before .before .before .before .before
 shared-slice-read-z : tie.Need-shared-slice-read-z
 shared-slice-read-z c = let h = next-inside (c .before .before .before .before .before .before .before .before .before .before .before .before .pre .0 .1) (reached-literal (now (c .before .before .before .before .before .before .before .before .before .before .before .before .args .codes)) _ _ (c .before .before .before .before .before .before .before .before .before .before .before .before .pre .1 .0 .0) (c .before .before .before .before .before .before .before .before .before .before .before .before .pre .1 .0 .1) (c .before .before .before .before .before .before .before .if1 .left)) (c .before .before .before .before .before .if2 .left) in rw (c .before .before .before .place-after2 .ensures, c .before .before .before .before .place-after .ensures) (h .1)
 
+-- behind the test of the mark: the clause has three literals
+three : (c : tie.Else2) → InThree (now (c .before .before .before .before .before .before .before .args .codes)) (c .before .before .before .before .before .before .before .args .b) (c .before .before .before .before .before .before .before .args .p)
+three c = marked-three (c .before .before .before .before .before .before .before .pre .0 .1) (reached-literal (now (c .before .before .before .before .before .before .before .args .codes)) _ _ (c .before .before .before .before .before .before .before .pre .1 .0 .0) (c .before .before .before .before .before .before .before .pre .1 .0 .1) (c .before .before .if1 .left)) (c .if2 .left)
+
+-- .. and there is room for two sides
+room : (c : tie.Else2) → 3 * c .before .before .before .before .before .before .before .args .n + 6 ≤ length (now (c .before .before .before .before .before .before .before .args .sides))
+room c = c .before .before .before .before .before .before .before .pre .1 .1 .1 (three c)
+
 put-marked-requires : tie.Need-put-marked-requires
-put-marked-requires c κs = search needs
+put-marked-requires c κs = omega (arith, room (c .before .before .before .before .before .before))
 
 put-marked-requires-2 : tie.Need-put-marked-requires-2
 unfolding isSelectNext
-put-marked-requires-2 c κs = omega (arith, marked-few (isSelectNext (getD (now (c .before .before .before .before .before .before .before .before .before .before .before .before .before .before .before .before .before .args .marks)) (c .before .before .before .before .before .before .before .before .before .before .before .before .before .before .before .before .before .args .p) 0)) (c .before .before .before .before .before .before .before .before .before .before .before .before .before .before .before .before .before .args .n) _ (c .before .before .before .put-marked .ensures .0), c .before .before .before .put-marked .kept .1 .0, c .before .before .before .before .before .before .before .before .before .before .before .before .before .before .before .before .before .pre .1 .1 .1)
+put-marked-requires-2 c κs = omega (arith, marked-few (isSelectNext (getD (now (c .before .before .before .before .before .before .before .before .before .before .before .before .before .before .before .before .before .args .marks)) (c .before .before .before .before .before .before .before .before .before .before .before .before .before .before .before .before .before .args .p) 0)) (c .before .before .before .before .before .before .before .before .before .before .before .before .before .before .before .before .before .args .n) _ (c .before .before .before .put-marked .ensures .0), c .before .before .before .put-marked .kept .1 .0, room (c .before .before .before .before .before .before .before .before .before .before))
 
 same-length : tie.Need-same-length
 same-length c = search needs
@@ -67,9 +77,11 @@ returns-3 c =
     let one = c .before .before .before .before .before .before .before .before .before .before .before .before .place-after in
     let two = c .before .before .before .before .before .before .before .before .before .before .before .place-after2 in
     let first = c .before .before .before .before .before .before .put-marked in
-    let second = c .before .before .put-marked2 in (
-      (λ cs m. both-put m l (now (s .args .sides)) (s .args .n) (s .pre .1 .1 .1) (one .result) (two .result) (one .ensures) (two .ensures) (first .result) (second .result) _ _ (first .ensures .0) (first .ensures .1) (second .ensures .0) (second .ensures .1) .0),
-      both-put (s .pre .0 .1) l (now (s .args .sides)) (s .args .n) (s .pre .1 .1 .1) (one .result) (two .result) (one .ensures) (two .ensures) (first .result) (second .result) _ _ (first .ensures .0) (first .ensures .1) (second .ensures .0) (second .ensures .1) .1,
+    let second = c .before .before .put-marked2 in
+    let k = three (c .before .before .before .before .before .before .before .before .before .before .before .before .before) in
+    let h = room (c .before .before .before .before .before .before .before .before .before .before .before .before .before) in (
+      (λ cs m. both-put m l k (now (s .args .sides)) (s .args .n) h (one .result) (two .result) (one .ensures) (two .ensures) (first .result) (second .result) _ _ (first .ensures .0) (first .ensures .1) (second .ensures .0) (second .ensures .1) .0),
+      both-put (s .pre .0 .1) l k (now (s .args .sides)) (s .args .n) h (one .result) (two .result) (one .ensures) (two .ensures) (first .result) (second .result) _ _ (first .ensures .0) (first .ensures .1) (second .ensures .0) (second .ensures .1) .1,
     )
 
 pub put-sides-spec : {M : Type 1} → statement M
