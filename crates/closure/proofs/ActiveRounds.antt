@@ -3,18 +3,20 @@
 use mathlib.Core.Path.{_≡_, subst, subst⁻¹}
 use mathlib.Core.Logic.{_≢_}
 use mathlib.Core.List.{List}
-use Prim.Native.Nat.{ℕ, _≤_, _<_}
+use Prim.Native.Nat.{ℕ, _+_, _%_, _≤_, _<_}
 use native.Mathlib.Omega.{arith}
 use native.Mathlib.Decide.{decLt, ℕ-discrete}
-use lib.ListN.{length, getD, List·getD-eq-default}
+use lib.ListN.{length, getD, replicate, List·getD-eq-default}
 use Rattle.clauses.specs.Limit.{maxEntries}
 use Rattle.clauses.specs.Code.{net}
 use Rattle.clauses.specs.Clause.{clausesIn}
 use Rattle.clauses.specs.Listing.{Fits}
 use Rattle.clauses.proofs.Clauses.{fits-present}
 use Rattle.gates.specs.Mark.{startOf}
+use Rattle.gates.specs.Normal.{Older}
 use Rattle.gates.specs.Found.{Found}
 use Rattle.gates.proofs.Rows.{literal-in}
+use Rattle.gates.proofs.Fills.{zero-at}
 use Rattle.gates.proofs.StartOf.{literal-start}
 use Rattle.passes.specs.Making.{Making, fresh, Rules}
 use Rattle.passes.specs.Xors.{LeadRow}
@@ -26,7 +28,7 @@ use Rattle.passes.proofs.Going.{found-marked}
 use Rattle.passes.proofs.PartMarks.{part-marked}
 use Rattle.passes.proofs.ActiveParts.{all-joined}
 use Rattle.passes.proofs.RowRules.{row-rules}
-use Rattle.closure.specs.Rounds.{Starting}
+use Rattle.closure.specs.Rounds.{Starting, Stamped}
 
 -- the nets of the row's entries are those of the list
 pub found-nets : {row marks : List ℕ} {v : ℕ} → Found (clausesIn row) row marks → Fits v (clausesIn row) → (q : ℕ) → net (getD row q 0) ≤ v
@@ -79,3 +81,21 @@ module _ {row marks older old new : List ℕ} {rounds groups : ℕ} (s : Startin
 
   pub round-rules : {new′ : List ℕ} {t : Tally} → Making (clausesIn row) old new′ t → RowJoined row marks old new′ t → Rules (clausesIn row) old new′ t
   round-rules m j = row-rules (s .found) (s .fits) old-leads (s .nets) m j
+
+-- The stamps
+
+-- a row of zeros has none
+pub zeros-old : (n : ℕ) → Older (replicate n 0) 1
+zeros-old n x = omega (arith, zero-at n x)
+
+-- .. and is the row before the first round
+pub none-stamped : {seen : List ℕ} → Older seen 1 → Stamped 0 seen
+none-stamped o = record { first = λ e. o; next = λ n x. omega (arith, o x) }
+
+-- the first round sees nothing
+pub first-stamped : {rounds : ℕ} {seen : List ℕ} → Stamped rounds seen → rounds ≡ 0 → Stamped (rounds + 1) seen
+first-stamped s z = record { first = λ e. absurd (omega arith); next = λ n x. omega (arith, s .first z x) }
+
+-- a later one leaves its stamp
+pub next-stamped : (rounds : ℕ) {stamp : ℕ} {seen : List ℕ} → stamp ≡ rounds % 255 + 1 → Older seen (stamp + 1) → Stamped (rounds + 1) seen
+next-stamped rounds e o = record { first = λ z. absurd (omega arith); next = λ n x. let m : (rounds + 1) % 255 ≡ rounds % 255 + 1 = omega arith in omega (arith, e, o x) }

@@ -136,3 +136,10 @@ older-is (Followed.settled h e) m = absurd (true≢false (sym m))
 older-is (Followed.stopped h l e) m = absurd (true≢false (sym m))
 older-is (Followed.clashed h l c e) m = absurd (true≢false (sym m))
 older-is (Followed.made h l c e o) m = o
+
+-- .. and one more round is made
+pub rounds-are : {limit : ℕ} {p q : Progress} {t : Tally} {leads next leads′ older′ : List ℕ} → Followed limit p t leads next leads′ older′ q → q .more ≡ true → q .rounds ≡ p .rounds + 1
+rounds-are (Followed.settled h e) m = absurd (true≢false (sym m))
+rounds-are (Followed.stopped h l e) m = absurd (true≢false (sym m))
+rounds-are (Followed.clashed h l c e) m = absurd (true≢false (sym m))
+rounds-are (Followed.made h l c e o) m = refl

@@ -4,12 +4,13 @@ use mathlib.Core.Path.{_≡_}
 use mathlib.Core.Logic.{_≢_}
 use mathlib.Core.Bool.{Bool, true, false, not, _&&_}
 use mathlib.Core.List.{List}
-use Prim.Native.Nat.{ℕ, _+_, _≤_, _<_}
+use Prim.Native.Nat.{ℕ, _+_, _%_, _≤_, _<_}
 use lib.Dec.{eqb}
 use lib.ListN.{length, replicate}
 use Rattle.clauses.specs.Limit.{maxNets, maxEntries}
 use Rattle.clauses.specs.Clause.{clausesIn}
 use Rattle.clauses.specs.Listing.{Fits}
+use Rattle.gates.specs.Normal.{Older}
 use Rattle.gates.specs.Found.{Found}
 use Rattle.rules.specs.Answer.{noLead}
 use Rattle.rules.specs.declared.Verdict.the-variants.{Contradiction, Settled, Unfinished}
@@ -30,6 +31,12 @@ pub record Starting (row marks older old new : List ℕ) (rounds groups : ℕ) :
   pub first : rounds ≡ 0 → older ≡ old
   -- the round before, if there was one, has joined all that the older leads draw
   pub before : rounds ≢ 0 → RowJoined row marks older old (fresh 0)
+
+-- what the row of the places that are seen holds, after so many rounds: nothing before the first one, and nothing but stamps below that of the next one,
+-- unless the stamps begin anew with it
+pub record Stamped (rounds : ℕ) (seen : List ℕ) : Type 0 where
+  pub first : rounds ≡ 0 → Older seen 1
+  pub next : rounds % 255 ≢ 0 → Older seen (rounds % 255 + 1)
 
 -- the round has joined nothing
 unfoldable pub isStill : Tally → Bool

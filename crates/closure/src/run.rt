@@ -8,6 +8,7 @@ ghost use Rattle.clauses.specs.Limit.{maxNets, maxEntries};
 ghost use Rattle.clauses.specs.Clause.{clausesIn};
 ghost use Rattle.clauses.specs.Listing.{Fits};
 ghost use Rattle.gates.specs.Count.{netsOf};
+ghost use Rattle.gates.specs.Normal.{Older};
 ghost use Rattle.gates.specs.Found.{Found};
 ghost use Rattle.rules.specs.Answer.{own};
 ghost use Rattle.rules.specs.Compute.{ended, closed};
@@ -129,6 +130,7 @@ pub fn run(
     requires { ⌜ ByLead (now codes) (now tops) (now entries) (now steps) × AllEntered (now codes) (now starts) (now leads) (now entries) ⌝ }
     requires { ⌜ PartRows (now touched) (now sought) (now seen) (now part) (now tags) ⌝ }
     requires { ⌜ Scratch (now keys) (now values) (now heads) (now chain) (now sides) ⌝ }
+    requires { ⌜ Older (now seen) 1 ⌝ }
     ensures { λ r. ⌜ ended (r .verdict) (r .rounds) (now (leads .exit)) ≡ closed (length (now (leads .entry))) (clausesIn (now (codes .entry))) limit ⌝ }
     ensures { λ r. ⌜ r .groups ≡ length (own (length (now (leads .entry))) (now (leads .exit))) ⌝ }
 {

@@ -6,14 +6,14 @@ use mathlib.Core.List.{List}
 use Prim.Native.Nat.{ℕ, zero, suc, _+_, _-_, _≤_, _<_}
 use native.Mathlib.Omega.{arith}
 use native.Mathlib.Decide.{decLt, ℕ-discrete}
-use lib.ListN.{length, getD, set, take, replicate}
+use lib.ListN.{length, getD, set, take}
 use lib.Seq.{getD-set-same, getD-set-other, getD-take, length-take-le}
+use Rattle.gates.specs.Normal.{Older}
 use Rattle.gates.specs.Found.{clauseAt, Starts}
 use Rattle.gates.proofs.Rows.{clause-goes-on, clause-stops, clause-ended, literal-some, starts-apart}
 use Rattle.passes.specs.Parts.{Ended, Copy, Part, Active, HoldsActive}
-use Rattle.passes.specs.Taking.{HasMark, Keeps, markCount, Sees, Laid, Extends, Taken, Took}
-use Rattle.gates.proofs.Fills.{zero-at}
-use Rattle.passes.proofs.MarkCounts.{count-none, count-fits}
+use Rattle.passes.specs.Taking.{HasMark, Keeps, marksAt, Sees, Laid, Extends, Taken, Took}
+use Rattle.passes.proofs.Stamps.{marks-none, count-old, marks-fit}
 
 -- clauses are the same where their entries and the 0 behind them are
 module _ (p q : List ℕ) where
@@ -158,20 +158,23 @@ pub took-seen : (codes : List ℕ) (b : ℕ) (seen : List ℕ) → HasMark seen 
 took-seen codes b seen m = record { keeps = λ w h. h; here = m; only = λ d s h. inr h }
 
 module _ (codes marks : List ℕ) where
-  pub taken-none : (m : ℕ) (seen part tags : List ℕ) → seen ≡ replicate m 0 → Taken codes marks seen part tags 0
-  taken-none m seen part tags e =
+  -- nothing is seen of a stamp that all entries lie below
+  pub taken-none : (stamp : ℕ) (seen part tags : List ℕ) → Older seen stamp → Taken codes marks stamp seen part tags 0
+  taken-none stamp seen part tags o =
       record {
-        count = sym (ap markCount e ∙ count-none m);
-        whole = λ d q s l h k. absurd (k (unmarked q));
+        count = sym (count-old stamp seen o);
+        whole = λ d q s l h k. absurd (k (marks-none stamp seen o q));
         behind = inl refl;
         is-part = record { size = refl; ended = λ b s. absurd (omega (arith, s .inside)); from = λ b s. absurd (omega (arith, s .inside)) };
-        all = λ d s k. absurd (k (unmarked d));
+        all = λ d s k. absurd (k (marks-none stamp seen o d));
+        older = λ q. omega (arith, o q);
       }
-    where
-      unmarked : (q : ℕ) → getD seen q 0 ≡ 0
-      unmarked q = ap (λ (l : List ℕ). getD l q 0) e ∙ zero-at m q
 
-  module _ (seen part tags : List ℕ) (n b : ℕ) (t : Taken codes marks seen part tags n) (s : Starts codes b) (k : ℕ) (whole : k ≡ length (clauseAt codes b) + 1) where
+  module _ (stamp : ℕ) (row part tags : List ℕ) (n b : ℕ) (t : Taken codes marks stamp row part tags n) (s : Starts codes b) (k : ℕ) (whole : k ≡ length (clauseAt codes b) + 1) where
+    -- what is seen
+    abbrev seen : List ℕ
+    seen = marksAt stamp row
+
     -- a clause that is not seen is seen nowhere
     pub unseen : getD seen b 0 ≡ 0 → (i : ℕ) → i < k → getD seen (b + i) 0 ≡ 0
     unseen z i h = go (ℕ-discrete (getD seen (b + i) 0) 0)
@@ -180,7 +183,11 @@ module _ (codes marks : List ℕ) where
         go (yes e) = e
         go (no m) = absurd (t .whole b (b + i) s (omega arith) (omega arith) m z)
 
-    module _ (seen′ : List ℕ) (sees : Sees seen b k seen′) where
+    module _ (row′ : List ℕ) (older : Older row′ (stamp + 1)) (sees : Sees seen b k (marksAt stamp row′)) where
+      -- what is seen afterwards
+      abbrev seen′ : List ℕ
+      seen′ = marksAt stamp row′
+
       -- a place is one of the clause's, or is seen as it was
       place-cases : (q : ℕ) → HasMark seen′ q → ((b ≤ q) × (q ≤ b + length (clauseAt codes b))) ⊎ HasMark seen q
       place-cases q m = go (decLt q b) (decLt q (b + k))
@@ -207,8 +214,8 @@ module _ (codes marks : List ℕ) where
       pub took-clause : Took codes b seen seen′
       took-clause = record { keeps = seen-kept; here = first-seen; only = start-cases }
 
-      pub seen-room : n + k ≤ length seen′
-      seen-room = omega (arith, t .count, sees .count, count-fits seen′)
+      pub seen-room : n + k ≤ length row′
+      seen-room = omega (arith, t .count, sees .count, marks-fit stamp row′)
 
       -- .. and is copied
       module _ (part′ tags′ : List ℕ) (room : n + k ≤ length part) (tag-room : n + k ≤ length tags) (size : length part′ ≡ length part) (tag-size : length tags′ ≡ length tags)
@@ -230,7 +237,7 @@ module _ (codes marks : List ℕ) where
         marks-behind : Behind marks b k (take n tags) (take (n + k) tags′)
         marks-behind = laid-behind marks b tags n k tags′ tag-room tag-size tag-laid
 
-        pub taken-copied : Taken codes marks seen′ part′ tags′ (n + k)
+        pub taken-copied : Taken codes marks stamp row′ part′ tags′ (n + k)
         taken-copied =
             record {
               count = omega (arith, t .count, sees .count);
@@ -238,6 +245,7 @@ module _ (codes marks : List ℕ) where
               behind = inr (ap (λ (i : ℕ). getD part′ i 0) last ∙ laid .laid (length (clauseAt codes b)) (omega arith) ∙ clause-ended codes b);
               is-part = part-put codes b k whole (take n part) (take (n + k) part′) codes-behind ended closed marks (take n tags) (take (n + k) tags′) marks-behind (t .is-part .size) s (t .is-part);
               all = λ d o m. ⊎-elim (λ q. (length (take n part), subst⁻¹ (λ (x : ℕ). Copy codes marks x (take (n + k) part′) (take (n + k) tags′) (length (take n part))) q here)) (λ x. kept d (t .all d o x)) (start-cases d o m);
+              older = older;
             }
           where
             ended : Ended (take n part)
@@ -253,10 +261,10 @@ module _ (codes marks : List ℕ) where
             kept d f = (f .0, copy-kept codes b k whole (take n part) (take (n + k) part′) codes-behind ended closed marks (take n tags) (take (n + k) tags′) marks-behind (t .is-part .size) d (f .0) (f .1))
 
 -- all active clauses are taken if they are seen
-pub holds-active : (codes marks seen part tags older old : List ℕ) (n : ℕ) → Taken codes marks seen part tags n → ((b : ℕ) → Active codes marks older old b → HasMark seen b)
-    → HoldsActive codes marks older old (take n part) (take n tags)
-holds-active codes marks seen part tags older old n t active b s = go (ℕ-discrete (getD seen b 0) 0)
+pub holds-active : (codes marks : List ℕ) (stamp : ℕ) (seen part tags older old : List ℕ) (n : ℕ) → Taken codes marks stamp seen part tags n
+    → ((b : ℕ) → Active codes marks older old b → HasMark (marksAt stamp seen) b) → HoldsActive codes marks older old (take n part) (take n tags)
+holds-active codes marks stamp seen part tags older old n t active b s = go (ℕ-discrete (getD (marksAt stamp seen) b 0) 0)
   where
-    go : Dec (getD seen b 0 ≡ 0) → ((b′ : ℕ) × Copy codes marks b (take n part) (take n tags) b′) ⊎ (¬ Active codes marks older old b)
+    go : Dec (getD (marksAt stamp seen) b 0 ≡ 0) → ((b′ : ℕ) × Copy codes marks b (take n part) (take n tags) b′) ⊎ (¬ Active codes marks older old b)
     go (yes z) = inr (λ a. active b a z)
     go (no m) = inl (t .all b s m)

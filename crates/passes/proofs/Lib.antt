@@ -39,5 +39,6 @@ pub mod MarkCounts
 pub mod Indexing
 pub mod ByLead
 pub mod Taking
+pub mod Stamps
 pub mod Appending
 pub mod RowRules

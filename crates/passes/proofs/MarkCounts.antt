@@ -1,28 +1,23 @@
 -- How many entries of a row have a mark.
 -- Assumes nothing.
-use mathlib.Core.Path.{_≡_, refl, sym, _∙_, ap}
+use mathlib.Core.Path.{_≡_, sym, _∙_, ap}
 use mathlib.Core.Logic.{_≢_}
 use mathlib.Core.List.{List, [], _∷_}
 use Prim.Native.Nat.{ℕ, zero, suc, _+_, _≤_, _<_}
 use native.Mathlib.Omega.{arith}
 use native.Mathlib.Decide.{ℕ-discrete}
 use native.Mathlib.Nat.{not-suc-le-zero, le-of-suc-le-suc}
-use lib.ListN.{length, getD, set, replicate}
+use lib.ListN.{length, getD, set}
 use borrow.Author.Tests.{eq-eqb, ne-eqb}
 use Rattle.passes.specs.Taking.{markCount}
 
-count-unmarked : (x : ℕ) (l : List ℕ) → x ≡ 0 → markCount (x ∷ l) ≡ markCount l
+pub count-unmarked : (x : ℕ) (l : List ℕ) → x ≡ 0 → markCount (x ∷ l) ≡ markCount l
 unfolding markCount
 count-unmarked x l e = rw (eq-eqb x 0 e)
 
 count-marked : (x : ℕ) (l : List ℕ) → x ≢ 0 → markCount (x ∷ l) ≡ markCount l + 1
 unfolding markCount
 count-marked x l n = rw (ne-eqb x 0 n)
-
-pub count-none : (n : ℕ) → markCount (replicate n 0) ≡ 0
-unfolding markCount
-count-none zero = refl
-count-none (suc n) = count-none n
 
 pub count-fits : (l : List ℕ) → markCount l ≤ length l
 unfolding markCount

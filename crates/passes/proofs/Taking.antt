@@ -22,7 +22,7 @@ use Rattle.passes.specs.Xors.{LeadRow}
 use Rattle.passes.specs.Parts.{Moved, ChangedIn, Shares, TiedAt, SelectAt, ReadAt, Active, constant, tie, side, tied, select}
 use Rattle.passes.specs.Indexing.{netAt, startAt, tieAt, Listed}
 use Rattle.passes.specs.ByLead.{placeIn, netIn, entryCount, Entered, AllEntered, Grows}
-use Rattle.passes.specs.Taking.{HasMark, Keeps, hasMoved, isTouched, asSelect, TouchedBy, Touched, isTied, isRead, SeesPlace, SeesMoved, OtherTouched, Due, by-select, by-tie, SeesDue, SeesSought, Sees, Taken}
+use Rattle.passes.specs.Taking.{HasMark, Keeps, marksAt, hasMoved, isTouched, asSelect, TouchedBy, Touched, isTied, isRead, SeesPlace, SeesMoved, OtherTouched, Due, by-select, by-tie, SeesDue, SeesSought, Sees, Taken}
 use Rattle.passes.proofs.ByLead.{entered-kept}
 use Rattle.passes.proofs.Joining.{lead-constant, lead-inside}
 use Rattle.passes.proofs.Walking.{literal-inside}
@@ -293,7 +293,11 @@ module _ (codes marks starts older old : List ℕ) (listed : Listed codes marks 
       let n = moved-variable q m in
       has-moved older old (net c - 1) (λ e. m (sym (lead-inside older c n (omega (arith, nets q))) ∙ ap (flip (isInverse c)) e ∙ lead-inside old c n (nets q)))
 
-  module _ (seen touched sought : List ℕ) (sees : SeesMoved codes starts older old (length old) seen touched sought) where
+  module _ (stamp : ℕ) (row touched sought : List ℕ) (sees : SeesMoved codes starts older old (length old) (marksAt stamp row) touched sought) where
+    -- what is seen
+    abbrev seen : List ℕ
+    seen = marksAt stamp row
+
     -- the clause of a place whose lead has changed
     moved-seen : (d q : ℕ) → LiteralAt codes d q → Moved older old (getD codes q 0) → SeesPlace codes starts old seen touched sought q
     moved-seen d q l m =
@@ -340,7 +344,7 @@ module _ (codes marks starts older old : List ℕ) (listed : Listed codes marks 
         touched-at d (s .place) p (h .0) (s .moved) (k .at) .select (read-is starts (s .place) (h .1)) (listed-select codes marks starts listed d p (k .at) k)
 
     -- a place that is due and has the lead of a clause that is copied is seen, if the net of that lead is sought
-    module _ {part tags : List ℕ} {n : ℕ} (taken : Taken codes marks seen part tags n) (room : n ≤ length part)
+    module _ {part tags : List ℕ} {n : ℕ} (taken : Taken codes marks stamp row part tags n) (room : n ≤ length part)
         (last : List ℕ) (keeps : Keeps seen last) (all : SeesSought codes starts old touched sought part n last) where
       due-seen : (b q d p : ℕ) → LiteralAt codes b q → LiteralAt codes d p → HasMark seen d → net (leadAt codes old q) ≡ net (leadAt codes old p)
           → HasMark sought (net (leadAt codes old p)) → Due codes starts old touched q → HasMark last b

@@ -1,4 +1,4 @@
--- The rows that a round works in, made once for all rounds: nothing is asked of what they hold. Only inner contracts cite these.
+-- The rows that a round works in, made once for all rounds: of what they hold, only the stamps of the places that are seen matter to the next one. Only inner contracts cite these.
 -- Assumes nothing.
 use mathlib.Core.Path.{_≡_}
 use mathlib.Core.List.{List}

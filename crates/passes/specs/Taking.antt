@@ -10,6 +10,7 @@ use lib.Dec.{eqb, ltb}
 use lib.ListN.{length, getD, take}
 use Rattle.clauses.specs.Limit.{maxNets}
 use Rattle.clauses.specs.Code.{net}
+use Rattle.gates.specs.Normal.{Older}
 use Rattle.gates.specs.Found.{clauseAt, Starts, LiteralAt}
 use Rattle.passes.specs.Passing.{leadAt}
 use Rattle.passes.specs.Indexing.{netAt, startAt, tieAt}
@@ -24,6 +25,11 @@ HasMark marked w = getD marked w 0 ≢ 0
 -- the marks are still there
 abbrev pub Keeps : List ℕ → List ℕ → Type 0
 Keeps marked marked′ = (w : ℕ) → HasMark marked w → HasMark marked′ w
+
+-- the marks of a stamp: those entries have one that are the stamp
+unfoldable pub marksAt : ℕ → List ℕ → List ℕ
+marksAt stamp [] = []
+marksAt stamp (x ∷ l) = cond (eqb x stamp) 1 0 ∷ marksAt stamp l
 
 -- how many entries have a mark
 unfoldable pub markCount : List ℕ → ℕ
@@ -113,13 +119,14 @@ pub record Extends (part : List ℕ) (n : ℕ) (part′ : List ℕ) (n′ : ℕ)
   pub more : n ≤ n′
   pub stays : (i : ℕ) → i < n → getD part′ i 0 ≡ getD part i 0
 
--- the clauses that are seen, each at all of its places, are copied: n entries are written
-pub record Taken (codes marks seen part partMarks : List ℕ) (n : ℕ) : Type 0 where
-  pub count : n ≡ markCount seen
-  pub whole : (d q : ℕ) → Starts codes d → d ≤ q → q ≤ d + length (clauseAt codes d) → HasMark seen q → HasMark seen d
+-- the clauses that are seen, each at all of its places, are copied: n entries are written; what is seen has the stamp, and no entry lies above it
+pub record Taken (codes marks : List ℕ) (stamp : ℕ) (seen part partMarks : List ℕ) (n : ℕ) : Type 0 where
+  pub count : n ≡ markCount (marksAt stamp seen)
+  pub whole : (d q : ℕ) → Starts codes d → d ≤ q → q ≤ d + length (clauseAt codes d) → HasMark (marksAt stamp seen) q → HasMark (marksAt stamp seen) d
   pub behind : (n ≡ 0) ⊎ (getD part (n - 1) 0 ≡ 0)
   pub is-part : Part codes marks (take n part) (take n partMarks)
-  pub all : (d : ℕ) → Starts codes d → HasMark seen d → (b′ : ℕ) × Copy codes marks d (take n part) (take n partMarks) b′
+  pub all : (d : ℕ) → Starts codes d → HasMark (marksAt stamp seen) d → (b′ : ℕ) × Copy codes marks d (take n part) (take n partMarks) b′
+  pub older : Older seen (stamp + 1)
 
 -- the clause at b is seen now, and no other one is that was not
 pub record Took (codes : List ℕ) (b : ℕ) (seen seen′ : List ℕ) : Type 0 where

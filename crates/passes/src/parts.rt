@@ -6,13 +6,14 @@ ghost use Prim.Native.Nat.{ℕ, _+_, _*_, _≤_, _<_};
 ghost use lib.ListN.{length, getD, take};
 ghost use Rattle.clauses.specs.Code.{net};
 ghost use Rattle.clauses.specs.Limit.{maxNets, maxEntries};
+ghost use Rattle.gates.specs.Normal.{Older};
 ghost use Rattle.gates.specs.Found.{clauseAt, Starts};
 ghost use Rattle.passes.specs.Passing.{leadAt};
 ghost use Rattle.passes.specs.Xors.{LeadRow};
 ghost use Rattle.passes.specs.Parts.{Ended, Part, HoldsActive};
 ghost use Rattle.passes.specs.Indexing.{Listed, Indexed, startAt};
 ghost use Rattle.passes.specs.ByLead.{entryCount, ByLead, AllEntered};
-ghost use Rattle.passes.specs.Taking.{Keeps, asSelect, SeesPlace, SeesNet, SeesMoved, Due, SeesDue, SeesSought, HasMark, Sees, Laid, Extends, Taken, Took};
+ghost use Rattle.passes.specs.Taking.{Keeps, asSelect, SeesPlace, SeesNet, SeesMoved, Due, SeesDue, SeesSought, HasMark, marksAt, Sees, Laid, Extends, Taken, Took};
 use crate::by_lead::enter_missing;
 use crate::by_lead::enter_net;
 use crate::touched::is_due;
@@ -24,15 +25,16 @@ use crate::touched::touch;
 use clauses::limits::MAX_ENTRIES;
 use gates::fill::clear;
 
-// Sees the k places from b on, which are not seen yet.
-fn see(seen: &mut [u8], b: usize, k: usize)
-    requires { ⌜ b + k ≤ length (now seen) ⌝ }
-    requires { ⌜ ((i : ℕ) → i < k → getD (now seen) (b + i) 0 ≡ 0) ⌝ }
-    ensures { λ _. ⌜ Sees (now (seen .entry)) b k (now (seen .exit)) ⌝ }
+// Sees the k places from b on, which are not seen yet: their entries become the stamp.
+fn see(seen: &mut [u8], stamp: u8, b: usize, k: usize)
+    requires { ⌜ (b + k ≤ length (now seen)) × Older (now seen) (stamp + 1) ⌝ }
+    requires { ⌜ ((i : ℕ) → i < k → getD (marksAt stamp (now seen)) (b + i) 0 ≡ 0) ⌝ }
+    ensures older { λ _. ⌜ Older (now (seen .exit)) (stamp + 1) ⌝ }
+    ensures sees { λ _. ⌜ Sees (marksAt stamp (now (seen .entry))) b k (marksAt stamp (now (seen .exit))) ⌝ }
 {
     let mut i = 0;
     while i < k {
-        seen[b + i] = 1;
+        seen[b + i] = stamp;
         i += 1;
     }
 }
@@ -67,22 +69,23 @@ fn take_clause(
     b: usize,
     e: usize,
     seen: &mut [u8],
+    stamp: u8,
     part: &mut [u32],
     tags: &mut [u8],
     n: usize,
 ) -> usize
     requires { ⌜ Starts (now codes) b × (e ≡ b + length (clauseAt (now codes) b)) × (e < length (now codes)) ⌝ }
     requires { ⌜ (length (now marks) ≡ length (now codes)) × (length (now codes) ≤ length (now seen)) × (length (now seen) ≤ length (now part)) × (length (now seen) ≤ length (now tags)) ⌝ }
-    requires { ⌜ Taken (now codes) (now marks) (now seen) (now part) (now tags) n ⌝ }
-    ensures taken { λ r. ⌜ Taken (now (codes .entry)) (now (marks .entry)) (now (seen .exit)) (now (part .exit)) (now (tags .exit)) r ⌝ }
-    ensures took { λ _. ⌜ Took (now (codes .entry)) b (now (seen .entry)) (now (seen .exit)) ⌝ }
+    requires { ⌜ Taken (now codes) (now marks) stamp (now seen) (now part) (now tags) n ⌝ }
+    ensures taken { λ r. ⌜ Taken (now (codes .entry)) (now (marks .entry)) stamp (now (seen .exit)) (now (part .exit)) (now (tags .exit)) r ⌝ }
+    ensures took { λ _. ⌜ Took (now (codes .entry)) b (marksAt stamp (now (seen .entry))) (marksAt stamp (now (seen .exit))) ⌝ }
     ensures extends { λ r. ⌜ Extends (now (part .entry)) n (now (part .exit)) r ⌝ }
 {
-    if seen[b] != 0 {
+    if seen[b] == stamp {
         return n;
     }
     let k = e + 1 - b;
-    see(seen, b, k);
+    see(seen, stamp, b, k);
     copy(codes, marks, b, k, part, tags, n);
     n + k
 }
@@ -97,6 +100,7 @@ fn take_changed(
     touched: &mut [u8],
     sought: &mut [u8],
     seen: &mut [u8],
+    stamp: u8,
     part: &mut [u32],
     tags: &mut [u8],
     n: usize,
@@ -104,10 +108,10 @@ fn take_changed(
     requires { ⌜ Listed (now codes) (now marks) (now starts) × Ended (now codes) × (q < length (now codes)) × (getD (now codes) q 0 ≢ 0) ⌝ }
     requires { ⌜ (length (now marks) ≡ length (now codes)) × (length (now codes) ≤ length (now seen)) × (length (now seen) ≤ length (now part)) × (length (now seen) ≤ length (now tags)) ⌝ }
     requires { ⌜ ((p : ℕ) → (asSelect (net (leadAt (now codes) (now old) p)) < length (now touched)) × (net (leadAt (now codes) (now old) p) < length (now sought))) ⌝ }
-    requires { ⌜ Taken (now codes) (now marks) (now seen) (now part) (now tags) n ⌝ }
-    ensures taken { λ r. ⌜ Taken (now (codes .entry)) (now (marks .entry)) (now (seen .exit)) (now (part .exit)) (now (tags .exit)) r ⌝ }
-    ensures keeps { λ _. ⌜ Keeps (now (seen .entry)) (now (seen .exit)) × Keeps (now (touched .entry)) (now (touched .exit)) × Keeps (now (sought .entry)) (now (sought .exit)) ⌝ }
-    ensures sees { λ _. ⌜ SeesPlace (now (codes .entry)) (now (starts .entry)) (now (old .entry)) (now (seen .exit)) (now (touched .exit)) (now (sought .exit)) q ⌝ }
+    requires { ⌜ Taken (now codes) (now marks) stamp (now seen) (now part) (now tags) n ⌝ }
+    ensures taken { λ r. ⌜ Taken (now (codes .entry)) (now (marks .entry)) stamp (now (seen .exit)) (now (part .exit)) (now (tags .exit)) r ⌝ }
+    ensures keeps { λ _. ⌜ Keeps (marksAt stamp (now (seen .entry))) (marksAt stamp (now (seen .exit))) × Keeps (now (touched .entry)) (now (touched .exit)) × Keeps (now (sought .entry)) (now (sought .exit)) ⌝ }
+    ensures sees { λ _. ⌜ SeesPlace (now (codes .entry)) (now (starts .entry)) (now (old .entry)) (marksAt stamp (now (seen .exit))) (now (touched .exit)) (now (sought .exit)) q ⌝ }
 {
     if is_idle(codes, starts, q, old) {
         return n;
@@ -128,7 +132,7 @@ fn take_changed(
         touched,
         sought,
     );
-    take_clause(codes, marks, b, e, seen, part, tags, n)
+    take_clause(codes, marks, b, e, seen, stamp, part, tags, n)
 }
 
 // Takes the clauses of net w, whose lead has changed.
@@ -143,6 +147,7 @@ fn take_changed_chain(
     touched: &mut [u8],
     sought: &mut [u8],
     seen: &mut [u8],
+    stamp: u8,
     part: &mut [u32],
     tags: &mut [u8],
     m: usize,
@@ -150,10 +155,10 @@ fn take_changed_chain(
     requires { ⌜ Indexed (now codes) (now marks) (now starts) (now heads) (now next) × Ended (now codes) × (0 < w) × (w < length (now heads)) ⌝ }
     requires { ⌜ (length (now marks) ≡ length (now codes)) × (length (now codes) ≤ length (now seen)) × (length (now seen) ≤ length (now part)) × (length (now seen) ≤ length (now tags)) ⌝ }
     requires { ⌜ ((p : ℕ) → (asSelect (net (leadAt (now codes) (now old) p)) < length (now touched)) × (net (leadAt (now codes) (now old) p) < length (now sought))) ⌝ }
-    requires { ⌜ Taken (now codes) (now marks) (now seen) (now part) (now tags) m ⌝ }
-    ensures taken { λ r. ⌜ Taken (now (codes .entry)) (now (marks .entry)) (now (seen .exit)) (now (part .exit)) (now (tags .exit)) r ⌝ }
-    ensures keeps { λ _. ⌜ Keeps (now (seen .entry)) (now (seen .exit)) × Keeps (now (touched .entry)) (now (touched .exit)) × Keeps (now (sought .entry)) (now (sought .exit)) ⌝ }
-    ensures sees { λ _. ⌜ SeesNet (now (codes .entry)) (now (starts .entry)) (now (old .entry)) w (now (seen .exit)) (now (touched .exit)) (now (sought .exit)) ⌝ }
+    requires { ⌜ Taken (now codes) (now marks) stamp (now seen) (now part) (now tags) m ⌝ }
+    ensures taken { λ r. ⌜ Taken (now (codes .entry)) (now (marks .entry)) stamp (now (seen .exit)) (now (part .exit)) (now (tags .exit)) r ⌝ }
+    ensures keeps { λ _. ⌜ Keeps (marksAt stamp (now (seen .entry))) (marksAt stamp (now (seen .exit))) × Keeps (now (touched .entry)) (now (touched .exit)) × Keeps (now (sought .entry)) (now (sought .exit)) ⌝ }
+    ensures sees { λ _. ⌜ SeesNet (now (codes .entry)) (now (starts .entry)) (now (old .entry)) w (marksAt stamp (now (seen .exit))) (now (touched .exit)) (now (sought .exit)) ⌝ }
 {
     let mut n = m;
     let mut k = heads[w] as usize;
@@ -167,6 +172,7 @@ fn take_changed_chain(
             touched,
             sought,
             seen,
+            stamp,
             part,
             tags,
             n,
@@ -191,6 +197,7 @@ fn take_all_changed(
     touched: &mut [u8],
     sought: &mut [u8],
     seen: &mut [u8],
+    stamp: u8,
     part: &mut [u32],
     tags: &mut [u8],
 ) -> usize
@@ -200,9 +207,9 @@ fn take_all_changed(
     requires { ⌜ ((p : ℕ) → (asSelect (net (leadAt (now codes) (now old) p)) < length (now touched)) × (net (leadAt (now codes) (now old) p) < length (now sought))) ⌝ }
     requires { ⌜ (length (now codes) ≤ maxEntries) × ((p : ℕ) → net (leadAt (now codes) (now old) p) ≤ maxNets) ⌝ }
     requires { ⌜ ByLead (now codes) (now tops) (now entries) (now steps) ⌝ }
-    requires { ⌜ Taken (now codes) (now marks) (now seen) (now part) (now tags) 0 ⌝ }
-    ensures taken { λ r. ⌜ Taken (now (codes .entry)) (now (marks .entry)) (now (seen .exit)) (now (part .exit)) (now (tags .exit)) r ⌝ }
-    ensures sees { λ _. ⌜ SeesMoved (now (codes .entry)) (now (starts .entry)) (now (older .entry)) (now (old .entry)) (length (now (old .entry))) (now (seen .exit)) (now (touched .exit)) (now (sought .exit)) ⌝ }
+    requires { ⌜ Taken (now codes) (now marks) stamp (now seen) (now part) (now tags) 0 ⌝ }
+    ensures taken { λ r. ⌜ Taken (now (codes .entry)) (now (marks .entry)) stamp (now (seen .exit)) (now (part .exit)) (now (tags .exit)) r ⌝ }
+    ensures sees { λ _. ⌜ SeesMoved (now (codes .entry)) (now (starts .entry)) (now (older .entry)) (now (old .entry)) (length (now (old .entry))) (marksAt stamp (now (seen .exit))) (now (touched .exit)) (now (sought .exit)) ⌝ }
     ensures places { λ _. ⌜ ByLead (now (codes .entry)) (now (tops .exit)) (now (entries .exit)) (now (steps .exit)) ⌝ }
     ensures entered { λ _. ⌜ (entryCount (now (entries .exit)) < maxEntries → ((q : ℕ) → net (getD (now (codes .entry)) q 0) ≤ length (now (old .entry))) → AllEntered (now (codes .entry)) (now (starts .entry)) (now (older .entry)) (now (entries .entry)) → AllEntered (now (codes .entry)) (now (starts .entry)) (now (old .entry)) (now (entries .exit))) ⌝ }
 {
@@ -221,6 +228,7 @@ fn take_all_changed(
             touched,
             sought,
             seen,
+            stamp,
             part,
             tags,
             n,
@@ -239,6 +247,7 @@ fn take_due(
     old: &[u32],
     touched: &[u8],
     seen: &mut [u8],
+    stamp: u8,
     part: &mut [u32],
     tags: &mut [u8],
     n: usize,
@@ -246,9 +255,9 @@ fn take_due(
     requires { ⌜ Listed (now codes) (now marks) (now starts) × Ended (now codes) × (q < length (now codes)) × (getD (now codes) q 0 ≢ 0) ⌝ }
     requires { ⌜ (length (now marks) ≡ length (now codes)) × (length (now codes) ≤ length (now seen)) × (length (now seen) ≤ length (now part)) × (length (now seen) ≤ length (now tags)) ⌝ }
     requires { ⌜ ((p : ℕ) → asSelect (net (leadAt (now codes) (now old) p)) < length (now touched)) ⌝ }
-    requires { ⌜ Taken (now codes) (now marks) (now seen) (now part) (now tags) n ⌝ }
-    ensures taken { λ r. ⌜ Taken (now (codes .entry)) (now (marks .entry)) (now (seen .exit)) (now (part .exit)) (now (tags .exit)) r ⌝ }
-    ensures sees { λ _. ⌜ Keeps (now (seen .entry)) (now (seen .exit)) × (Due (now (codes .entry)) (now (starts .entry)) (now (old .entry)) (now (touched .entry)) q → HasMark (now (seen .exit)) (startAt (now (starts .entry)) q)) ⌝ }
+    requires { ⌜ Taken (now codes) (now marks) stamp (now seen) (now part) (now tags) n ⌝ }
+    ensures taken { λ r. ⌜ Taken (now (codes .entry)) (now (marks .entry)) stamp (now (seen .exit)) (now (part .exit)) (now (tags .exit)) r ⌝ }
+    ensures sees { λ _. ⌜ Keeps (marksAt stamp (now (seen .entry))) (marksAt stamp (now (seen .exit))) × (Due (now (codes .entry)) (now (starts .entry)) (now (old .entry)) (now (touched .entry)) q → HasMark (marksAt stamp (now (seen .exit))) (startAt (now (starts .entry)) q)) ⌝ }
     ensures extends { λ r. ⌜ Extends (now (part .entry)) n (now (part .exit)) r ⌝ }
 {
     let s = starts[q] as usize;
@@ -256,14 +265,14 @@ fn take_due(
         return n;
     }
     let b = s / 8;
-    if seen[b] != 0 {
+    if seen[b] == stamp {
         return n;
     }
     let e = starts[MAX_ENTRIES + b] as usize;
     if !is_due(codes, starts, q, b, e, old, touched) {
         return n;
     }
-    take_clause(codes, marks, b, e, seen, part, tags, n)
+    take_clause(codes, marks, b, e, seen, stamp, part, tags, n)
 }
 
 // Takes the clauses that are due for places whose leads are of net w.
@@ -278,6 +287,7 @@ fn take_due_chain(
     old: &[u32],
     touched: &[u8],
     seen: &mut [u8],
+    stamp: u8,
     part: &mut [u32],
     tags: &mut [u8],
     m: usize,
@@ -286,9 +296,9 @@ fn take_due_chain(
     requires { ⌜ ByLead (now codes) (now tops) (now entries) (now steps) × AllEntered (now codes) (now starts) (now old) (now entries) ⌝ }
     requires { ⌜ (length (now marks) ≡ length (now codes)) × (length (now codes) ≤ length (now seen)) × (length (now seen) ≤ length (now part)) × (length (now seen) ≤ length (now tags)) ⌝ }
     requires { ⌜ ((p : ℕ) → asSelect (net (leadAt (now codes) (now old) p)) < length (now touched)) ⌝ }
-    requires { ⌜ Taken (now codes) (now marks) (now seen) (now part) (now tags) m ⌝ }
-    ensures taken { λ r. ⌜ Taken (now (codes .entry)) (now (marks .entry)) (now (seen .exit)) (now (part .exit)) (now (tags .exit)) r ⌝ }
-    ensures sees { λ _. ⌜ Keeps (now (seen .entry)) (now (seen .exit)) × SeesDue (now (codes .entry)) (now (starts .entry)) (now (old .entry)) (now (touched .entry)) w (now (seen .exit)) ⌝ }
+    requires { ⌜ Taken (now codes) (now marks) stamp (now seen) (now part) (now tags) m ⌝ }
+    ensures taken { λ r. ⌜ Taken (now (codes .entry)) (now (marks .entry)) stamp (now (seen .exit)) (now (part .exit)) (now (tags .exit)) r ⌝ }
+    ensures sees { λ _. ⌜ Keeps (marksAt stamp (now (seen .entry))) (marksAt stamp (now (seen .exit))) × SeesDue (now (codes .entry)) (now (starts .entry)) (now (old .entry)) (now (touched .entry)) w (marksAt stamp (now (seen .exit))) ⌝ }
     ensures extends { λ r. ⌜ Extends (now (part .entry)) m (now (part .exit)) r ⌝ }
 {
     let mut n = m;
@@ -302,6 +312,7 @@ fn take_due_chain(
             old,
             touched,
             seen,
+            stamp,
             part,
             tags,
             n,
@@ -324,6 +335,7 @@ fn take_sought(
     touched: &[u8],
     sought: &mut [u8],
     seen: &mut [u8],
+    stamp: u8,
     part: &mut [u32],
     tags: &mut [u8],
     n: usize,
@@ -332,10 +344,10 @@ fn take_sought(
     requires { ⌜ ByLead (now codes) (now tops) (now entries) (now steps) × AllEntered (now codes) (now starts) (now old) (now entries) ⌝ }
     requires { ⌜ (length (now marks) ≡ length (now codes)) × (length (now codes) ≤ length (now seen)) × (length (now seen) ≤ length (now part)) × (length (now seen) ≤ length (now tags)) ⌝ }
     requires { ⌜ ((p : ℕ) → asSelect (net (leadAt (now codes) (now old) p)) < length (now touched)) ⌝ }
-    requires { ⌜ Taken (now codes) (now marks) (now seen) (now part) (now tags) n ⌝ }
-    ensures taken { λ r. ⌜ Taken (now (codes .entry)) (now (marks .entry)) (now (seen .exit)) (now (part .exit)) (now (tags .exit)) r ⌝ }
-    ensures keeps { λ _. ⌜ Keeps (now (seen .entry)) (now (seen .exit)) × Keeps (now (sought .exit)) (now (sought .entry)) ⌝ }
-    ensures sees { λ _. ⌜ ((w : ℕ) → HasMark (now (sought .entry)) w → HasMark (now (sought .exit)) w ⊎ SeesDue (now (codes .entry)) (now (starts .entry)) (now (old .entry)) (now (touched .entry)) w (now (seen .exit))) ⌝ }
+    requires { ⌜ Taken (now codes) (now marks) stamp (now seen) (now part) (now tags) n ⌝ }
+    ensures taken { λ r. ⌜ Taken (now (codes .entry)) (now (marks .entry)) stamp (now (seen .exit)) (now (part .exit)) (now (tags .exit)) r ⌝ }
+    ensures keeps { λ _. ⌜ Keeps (marksAt stamp (now (seen .entry))) (marksAt stamp (now (seen .exit))) × Keeps (now (sought .exit)) (now (sought .entry)) ⌝ }
+    ensures sees { λ _. ⌜ ((w : ℕ) → HasMark (now (sought .entry)) w → HasMark (now (sought .exit)) w ⊎ SeesDue (now (codes .entry)) (now (starts .entry)) (now (old .entry)) (now (touched .entry)) w (marksAt stamp (now (seen .exit)))) ⌝ }
     ensures done { λ _. ⌜ ¬ HasMark (now (sought .exit)) (net (leadAt (now (part .entry)) (now (old .entry)) i)) ⌝ }
     ensures extends { λ r. ⌜ Extends (now (part .entry)) n (now (part .exit)) r ⌝ }
 {
@@ -358,6 +370,7 @@ fn take_sought(
         old,
         touched,
         seen,
+        stamp,
         part,
         tags,
         n,
@@ -376,6 +389,7 @@ fn take_all_due(
     touched: &[u8],
     sought: &mut [u8],
     seen: &mut [u8],
+    stamp: u8,
     part: &mut [u32],
     tags: &mut [u8],
     m: usize,
@@ -384,9 +398,9 @@ fn take_all_due(
     requires { ⌜ ByLead (now codes) (now tops) (now entries) (now steps) × AllEntered (now codes) (now starts) (now old) (now entries) ⌝ }
     requires { ⌜ (length (now marks) ≡ length (now codes)) × (length (now codes) ≤ length (now seen)) × (length (now seen) ≤ length (now part)) × (length (now seen) ≤ length (now tags)) ⌝ }
     requires { ⌜ ((p : ℕ) → asSelect (net (leadAt (now codes) (now old) p)) < length (now touched)) ⌝ }
-    requires { ⌜ Taken (now codes) (now marks) (now seen) (now part) (now tags) m ⌝ }
-    ensures taken { λ r. ⌜ Taken (now (codes .entry)) (now (marks .entry)) (now (seen .exit)) (now (part .exit)) (now (tags .exit)) r ⌝ }
-    ensures sees { λ _. ⌜ Keeps (now (seen .entry)) (now (seen .exit)) × SeesSought (now (codes .entry)) (now (starts .entry)) (now (old .entry)) (now (touched .entry)) (now (sought .entry)) (now (part .entry)) m (now (seen .exit)) ⌝ }
+    requires { ⌜ Taken (now codes) (now marks) stamp (now seen) (now part) (now tags) m ⌝ }
+    ensures taken { λ r. ⌜ Taken (now (codes .entry)) (now (marks .entry)) stamp (now (seen .exit)) (now (part .exit)) (now (tags .exit)) r ⌝ }
+    ensures sees { λ _. ⌜ Keeps (marksAt stamp (now (seen .entry))) (marksAt stamp (now (seen .exit))) × SeesSought (now (codes .entry)) (now (starts .entry)) (now (old .entry)) (now (touched .entry)) (now (sought .entry)) (now (part .entry)) m (marksAt stamp (now (seen .exit))) ⌝ }
 {
     let mut n = m;
     let mut i = 0;
@@ -403,6 +417,7 @@ fn take_all_due(
             touched,
             sought,
             seen,
+            stamp,
             part,
             tags,
             n,
@@ -412,7 +427,7 @@ fn take_all_due(
     n
 }
 
-// Copies the active clauses and their marks into a row of their own, and answers how long it is; the places by their leads, which are those of the older leads, become those of the old ones. `touched` and `sought` are for the nets, `seen` for the places.
+// Copies the active clauses and their marks into a row of their own, and answers how long it is; the places by their leads, which are those of the older leads, become those of the old ones. `touched` and `sought` are for the nets, `seen` for the places, where the entries of the clauses that are taken become the stamp, which all were below.
 pub fn take_active(
     codes: &[u32],
     marks: &[u8],
@@ -427,6 +442,7 @@ pub fn take_active(
     touched: &mut [u8],
     sought: &mut [u8],
     seen: &mut [u8],
+    stamp: u8,
     part: &mut [u32],
     tags: &mut [u8],
 ) -> usize
@@ -434,16 +450,16 @@ pub fn take_active(
     requires { ⌜ Indexed (now codes) (now marks) (now starts) (now heads) (now next) ⌝ }
     requires { ⌜ ((q : ℕ) → net (getD (now codes) q 0) ≤ length (now old)) × LeadRow (now old) ⌝ }
     requires { ⌜ (length (now older) ≡ length (now old)) × (length (now old) ≤ maxNets) × (2 * maxNets + 2 ≤ length (now touched)) × (length (now sought) ≡ maxNets + 1) ⌝ }
-    requires { ⌜ (length (now codes) ≤ length (now seen)) × (length (now seen) ≤ length (now part)) × (length (now seen) ≤ length (now tags)) ⌝ }
+    requires { ⌜ (length (now codes) ≤ length (now seen)) × (length (now seen) ≤ length (now part)) × (length (now seen) ≤ length (now tags)) × Older (now seen) stamp ⌝ }
     requires { ⌜ ByLead (now codes) (now tops) (now entries) (now steps) × AllEntered (now codes) (now starts) (now older) (now entries) ⌝ }
     ensures { λ r. ⌜ r ≤ length (now (seen .entry)) ⌝ }
     ensures { λ r. ⌜ Part (now (codes .entry)) (now (marks .entry)) (take r (now (part .exit))) (take r (now (tags .exit))) ⌝ }
     ensures { λ r. ⌜ HoldsActive (now (codes .entry)) (now (marks .entry)) (now (older .entry)) (now (old .entry)) (take r (now (part .exit))) (take r (now (tags .exit))) ⌝ }
     ensures { λ _. ⌜ ByLead (now (codes .entry)) (now (tops .exit)) (now (entries .exit)) (now (steps .exit)) × AllEntered (now (codes .entry)) (now (starts .entry)) (now (old .entry)) (now (entries .exit)) ⌝ }
+    ensures { λ _. ⌜ Older (now (seen .exit)) (stamp + 1) ⌝ }
 {
     clear(touched);
     clear(sought);
-    clear(seen);
     let n = take_all_changed(
         codes,
         marks,
@@ -458,6 +474,7 @@ pub fn take_active(
         touched,
         sought,
         seen,
+        stamp,
         part,
         tags,
     );
@@ -473,6 +490,7 @@ pub fn take_active(
         touched,
         sought,
         seen,
+        stamp,
         part,
         tags,
         n,

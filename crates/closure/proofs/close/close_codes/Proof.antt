@@ -8,12 +8,12 @@ use denote.Ref.{now}
 use lib.ListN.{getD}
 use Rattle.clauses.specs.Clause.{clausesIn}
 use Rattle.clauses.specs.Code.{net}
-use Rattle.clauses.specs.Limit.{maxNets}
+use Rattle.clauses.specs.Limit.{maxNets, maxEntries}
 use Rattle.clauses.specs.Listing.{Fits}
 use Rattle.gates.specs.Count.{netsOf}
 use Rattle.rules.specs.Answer.{leadOf}
 use Rattle.rules.proofs.Closing.{first-lead}
-use Rattle.closure.proofs.ActiveRounds.{found-nets}
+use Rattle.closure.proofs.ActiveRounds.{found-nets, zeros-old}
 use borrow.Author.Needs.{needs}
 use Rattle.closure.proofs.close.close_codes.Statement.{statement}
 use Rattle.closure.proofs.close.close_codes.Tie as tie
@@ -127,7 +127,7 @@ run-requires c κs =
                 (y .0, y .1),
                 (
                   record { touched-room = refl; sought-room = refl; seen-room = refl; part-room = refl; tag-room = refl },
-                  record { key-room = refl; value-room = refl; head-room = refl; chain-room = refl; side-room = refl },
+                  (record { key-room = refl; value-room = refl; head-room = refl; chain-room = refl; side-room = refl }, zeros-old maxEntries),
                 ),
               ),
             ),

@@ -9,14 +9,16 @@ use denote.Ref.{now}
 use lib.ListN.{length}
 use Rattle.passes.specs.ByLead.{ByLead, AllEntered}
 use Rattle.passes.specs.Scratch.{Scratch, PartRows}
-use Rattle.closure.proofs.Loop.{Between, between-sizes, is-over, loop-begins, few-made, next-starts, round-followed, fewer-left, older-is}
+use Rattle.closure.specs.Rounds.{Stamped}
+use Rattle.closure.proofs.ActiveRounds.{none-stamped}
+use Rattle.closure.proofs.Loop.{Between, between-sizes, is-over, loop-begins, few-made, next-starts, round-followed, fewer-left, older-is, rounds-are}
 use Rattle.closure.proofs.run.run.Statement.{statement}
 use Rattle.closure.proofs.run.run.Tie as tie
 
 abbrev Inv-loop : tie.InvT-loop
 Inv-loop codes marks starts places links limit leads₀ next₀ older₀ tops₀ entries₀ steps₀ touched₀ sought₀ seen₀ part₀ tags₀ keys₀ values₀ heads₀ chain₀ sides₀ s₀ leads next older tops entries steps touched sought seen part tags keys values heads chain sides s =
     Between codes marks limit (length leads₀) leads next older s × ByLead codes tops entries steps × (s .more ≡ true → AllEntered codes starts older entries)
-    × PartRows touched sought seen part tags × Scratch keys values heads chain sides
+    × PartRows touched sought seen part tags × Scratch keys values heads chain sides × (s .more ≡ true → Stamped (s .rounds) seen)
 
 abbrev μ-loop : tie.MeasureT-loop
 μ-loop codes marks starts places links limit leads₀ next₀ older₀ tops₀ entries₀ steps₀ touched₀ sought₀ seen₀ part₀ tags₀ keys₀ values₀ heads₀ chain₀ sides₀ s₀ leads next older tops entries steps touched sought seen part tags keys values heads chain sides s =
@@ -33,7 +35,8 @@ loop-holds c =
       p .1 .1 .1 .1 .1 .0 .0,
       λ m. subst⁻¹ (λ (l : List ℕ). AllEntered (s .args .codes .now) (s .args .starts .now) l (s .args .entries .now)) (p .1 .1 .1 .0 .2) (p .1 .1 .1 .1 .1 .0 .1),
       p .1 .1 .1 .1 .1 .1 .0,
-      p .1 .1 .1 .1 .1 .1 .1,
+      p .1 .1 .1 .1 .1 .1 .1 .0,
+      λ m. none-stamped (p .1 .1 .1 .1 .1 .1 .1 .1),
     )
 
 round-requires : tie.Need-round-requires Inv-loop μ-loop
@@ -41,7 +44,7 @@ round-requires c κs =
     let s = c .before .before .before .before .before .before .before .before .before .before .before .before .before .before .before .before .before .before .before .before .before .before .before .before .before .before .before .before .before .before .before .before .before .before .before .before .before .before .before .pre in
     let l = c .before .before .before .before .before .before .before .before .before .before .before .before .before .before .before .before .before .loop .inv in
     let m = c .before .before .before .before .before .before .before .before .before .before .before .before .before .before .before .before .loop-test .taken in
-    (next-starts (s .0) (s .1 .0) (s .1 .1 .0 .0) (s .1 .1 .0 .1) (l .0) m, (s .1 .1 .1 .1 .0, ((l .1, l .2 m), (l .3, l .4))))
+    (next-starts (s .0) (s .1 .0) (s .1 .1 .0 .0) (s .1 .1 .0 .1) (l .0) m, (s .1 .1 .1 .1 .0, ((l .1, l .2 m), (l .3, (l .4, l .5 m)))))
 
 follow-requires : tie.Need-follow-requires Inv-loop μ-loop
 follow-requires c κs =
@@ -65,8 +68,8 @@ loop-again c =
     let k = r .kept .1 .1 .1 .1 .1 .1 .1 .1 .1 .1 .1 in
     let f = c .before .before .before .before .follow in (
       round-followed (s .0) (s .1 .0) (s .1 .1 .0 .0) (s .1 .1 .0 .1) (l .0) (c .before .before .before .before .before .before .before .before .before .before .before .before .before .before .before .before .before .before .before .before .before .before .before .before .before .before .before .before .before .before .before .before .before .before .before .before .before .before .before .before .before .before .before .before .before .before .before .before .before .before .before .before .before .loop-test .taken) (e .0) (e .1 .0) _ _ (f .kept .1 .1 .1 .1 .1 .0) (f .ensures),
-      e .1 .1 .0,
-      λ m. subst⁻¹ (λ (o : List ℕ). AllEntered (a .codes .now) (a .starts .now) o (r .last .1 .1 .1 .1 .1 .1 .1 .1 .1 .0)) (older-is (f .ensures) m) (e .1 .1 .1),
+      e .1 .1 .0 .0,
+      λ m. subst⁻¹ (λ (o : List ℕ). AllEntered (a .codes .now) (a .starts .now) o (r .last .1 .1 .1 .1 .1 .1 .1 .1 .1 .0)) (older-is (f .ensures) m) (e .1 .1 .0 .1),
       record {
         touched-room = k .0 ∙ l .3 .touched-room;
         sought-room = k .1 .0 ∙ l .3 .sought-room;
@@ -81,6 +84,7 @@ loop-again c =
         chain-room = k .1 .1 .1 .1 .1 .1 .1 .1 .0 ∙ l .4 .chain-room;
         side-room = k .1 .1 .1 .1 .1 .1 .1 .1 .1 .0 ∙ l .4 .side-room;
       },
+      λ m. subst⁻¹ (λ (n : ℕ). Stamped n (r .last .1 .1 .1 .1 .1 .1 .1 .1 .1 .1 .1 .1 .1 .0)) (rounds-are (f .ensures) m) (e .1 .1 .1),
     )
 
 same-length : tie.Need-same-length Inv-loop μ-loop
@@ -117,19 +121,19 @@ same-length-11 : tie.Need-same-length-11 Inv-loop μ-loop
 same-length-11 c = c .before .loop .inv .3 .tag-room ∙ sym (c .before .before .before .before .before .before .before .before .before .before .before .before .before .before .before .before .before .before .before .before .before .before .before .pre .1 .1 .1 .1 .1 .1 .0 .tag-room)
 
 same-length-12 : tie.Need-same-length-12 Inv-loop μ-loop
-same-length-12 c = c .before .loop .inv .4 .key-room ∙ sym (c .before .before .before .before .before .before .before .before .before .before .before .before .before .before .before .before .before .before .before .before .before .before .before .pre .1 .1 .1 .1 .1 .1 .1 .key-room)
+same-length-12 c = c .before .loop .inv .4 .key-room ∙ sym (c .before .before .before .before .before .before .before .before .before .before .before .before .before .before .before .before .before .before .before .before .before .before .before .pre .1 .1 .1 .1 .1 .1 .1 .0 .key-room)
 
 same-length-13 : tie.Need-same-length-13 Inv-loop μ-loop
-same-length-13 c = c .before .loop .inv .4 .value-room ∙ sym (c .before .before .before .before .before .before .before .before .before .before .before .before .before .before .before .before .before .before .before .before .before .before .before .pre .1 .1 .1 .1 .1 .1 .1 .value-room)
+same-length-13 c = c .before .loop .inv .4 .value-room ∙ sym (c .before .before .before .before .before .before .before .before .before .before .before .before .before .before .before .before .before .before .before .before .before .before .before .pre .1 .1 .1 .1 .1 .1 .1 .0 .value-room)
 
 same-length-14 : tie.Need-same-length-14 Inv-loop μ-loop
-same-length-14 c = c .before .loop .inv .4 .head-room ∙ sym (c .before .before .before .before .before .before .before .before .before .before .before .before .before .before .before .before .before .before .before .before .before .before .before .pre .1 .1 .1 .1 .1 .1 .1 .head-room)
+same-length-14 c = c .before .loop .inv .4 .head-room ∙ sym (c .before .before .before .before .before .before .before .before .before .before .before .before .before .before .before .before .before .before .before .before .before .before .before .pre .1 .1 .1 .1 .1 .1 .1 .0 .head-room)
 
 same-length-15 : tie.Need-same-length-15 Inv-loop μ-loop
-same-length-15 c = c .before .loop .inv .4 .chain-room ∙ sym (c .before .before .before .before .before .before .before .before .before .before .before .before .before .before .before .before .before .before .before .before .before .before .before .pre .1 .1 .1 .1 .1 .1 .1 .chain-room)
+same-length-15 c = c .before .loop .inv .4 .chain-room ∙ sym (c .before .before .before .before .before .before .before .before .before .before .before .before .before .before .before .before .before .before .before .before .before .before .before .pre .1 .1 .1 .1 .1 .1 .1 .0 .chain-room)
 
 same-length-16 : tie.Need-same-length-16 Inv-loop μ-loop
-same-length-16 c = c .before .loop .inv .4 .side-room ∙ sym (c .before .before .before .before .before .before .before .before .before .before .before .before .before .before .before .before .before .before .before .before .before .before .before .pre .1 .1 .1 .1 .1 .1 .1 .side-room)
+same-length-16 c = c .before .loop .inv .4 .side-room ∙ sym (c .before .before .before .before .before .before .before .before .before .before .before .before .before .before .before .before .before .before .before .before .before .before .before .pre .1 .1 .1 .1 .1 .1 .1 .0 .side-room)
 
 returns : tie.Need-returns Inv-loop μ-loop
 returns c = is-over (c .before .loop .inv .0) (c .loop-test .left)

@@ -9,7 +9,7 @@ use lib.ListN.{length, getD}
 use Rattle.clauses.specs.Limit.{maxEntries}
 use Rattle.passes.specs.Indexing.{netAt}
 use Rattle.passes.specs.ByLead.{entryCount, ByLead, Entered, Grows}
-use Rattle.passes.specs.Taking.{hasMoved, SeesNet, SeesMoved, Taken}
+use Rattle.passes.specs.Taking.{marksAt, hasMoved, SeesNet, SeesMoved, Taken}
 use Rattle.passes.proofs.ByLead.{grows-none, grows-on, entered-kept}
 use Rattle.passes.proofs.Taking.{nets-first, nets-more, place-keeps, moved-entered}
 use borrow.Author.Needs.{needs}
@@ -17,13 +17,13 @@ use Rattle.passes.proofs.parts.take_all_changed.Statement.{statement}
 use Rattle.passes.proofs.parts.take_all_changed.Tie as tie
 
 abbrev Inv-loop : tie.InvT-loop
-Inv-loop codes marks starts heads next older old tops₀ entries₀ steps₀ touched₀ sought₀ seen₀ part₀ tags₀ n₀ w₀ tops entries steps touched sought seen part tags n w =
-    SeesMoved codes starts older old w seen touched sought × Taken codes marks seen part tags n × ByLead codes tops entries steps × Grows entries₀ entries
+Inv-loop codes marks starts heads next older old tops₀ entries₀ steps₀ touched₀ sought₀ seen₀ stamp part₀ tags₀ n₀ w₀ tops entries steps touched sought seen part tags n w =
+    SeesMoved codes starts older old w (marksAt stamp seen) touched sought × Taken codes marks stamp seen part tags n × ByLead codes tops entries steps × Grows entries₀ entries
     × (entryCount entries < maxEntries → (x : ℕ) → x < w → hasMoved older old x ≡ true → (q : ℕ) → q < length codes → netAt codes q ≡ x + 1 → getD starts q 0 % 4 ≢ 0 → Entered codes old entries q)
     × (length touched ≡ length touched₀) × (length sought ≡ length sought₀) × (length seen ≡ length seen₀) × (length part ≡ length part₀) × (length tags ≡ length tags₀) × (w ≤ length old)
 
 abbrev μ-loop : tie.MeasureT-loop
-μ-loop codes marks starts heads next older old tops₀ entries₀ steps₀ touched₀ sought₀ seen₀ part₀ tags₀ n₀ w₀ tops entries steps touched sought seen part tags n w =
+μ-loop codes marks starts heads next older old tops₀ entries₀ steps₀ touched₀ sought₀ seen₀ stamp part₀ tags₀ n₀ w₀ tops entries steps touched sought seen part tags n w =
     length old - w
 
 next-moved-requires : tie.Need-next-moved-requires Inv-loop μ-loop
@@ -34,7 +34,7 @@ loop-holds c =
     let a = c .before .before .before .before .before .before .before .before .before .before .before .before .before .before .before .before .args in
     let p = c .before .before .before .before .before .before .before .before .before .before .before .before .before .before .before .before .pre in
     let f = c .next-moved .ensures in (
-      nets-first (hasMoved (a .older .now) (a .old .now)) (λ x. SeesNet (a .codes .now) (a .starts .now) (a .old .now) (x + 1) (a .seen .now) (a .touched .now) (a .sought .now)) _ _ f,
+      nets-first (hasMoved (a .older .now) (a .old .now)) (λ x. SeesNet (a .codes .now) (a .starts .now) (a .old .now) (x + 1) (marksAt (a .stamp) (a .seen .now)) (a .touched .now) (a .sought .now)) _ _ f,
       p .1 .1 .1 .1 .1 .1,
       p .1 .1 .1 .1 .1 .0,
       grows-none _,
@@ -92,10 +92,10 @@ loop-again c =
     let entries = e .last .1 .1 .1 .1 .1 .1 .1 .0 in
     let touched = y .last .1 .1 .1 .1 .1 .1 .1 .0 in
     let sought = y .last .1 .1 .1 .1 .1 .1 .1 .1 .0 in
-    let seen = y .last .1 .1 .1 .1 .1 .1 .1 .1 .1 .0 in
+    let seen = marksAt (a .stamp) (y .last .1 .1 .1 .1 .1 .1 .1 .1 .1 .0) in
     let keeps = y .ensures .1 .0 in
     let grows = e .ensures .1 .0 in (
-      nets-more (hasMoved (a .older .now) (a .old .now)) (λ x. SeesNet (a .codes .now) (a .starts .now) (a .old .now) (x + 1) (l .seen) (l .touched) (l .sought))
+      nets-more (hasMoved (a .older .now) (a .old .now)) (λ x. SeesNet (a .codes .now) (a .starts .now) (a .old .now) (x + 1) (marksAt (a .stamp) (l .seen)) (l .touched) (l .sought))
           (λ x. SeesNet (a .codes .now) (a .starts .now) (a .old .now) (x + 1) seen touched sought) (l .w) _ _ (λ x s q m i. place-keeps (keeps .0) (keeps .1) (keeps .2) (s q m i)) (v .0) (y .ensures .1 .1) f,
       y .ensures .0,
       e .ensures .0,
@@ -108,8 +108,8 @@ loop-again c =
       y .kept .1 .1 .1 .1 .1 .1 .1 .0 ∙ v .5,
       y .kept .1 .1 .1 .1 .1 .1 .1 .1 .0 ∙ v .6,
       y .kept .1 .1 .1 .1 .1 .1 .1 .1 .1 .0 ∙ v .7,
-      y .kept .1 .1 .1 .1 .1 .1 .1 .1 .1 .1 .0 ∙ v .8,
-      y .kept .1 .1 .1 .1 .1 .1 .1 .1 .1 .1 .1 .0 ∙ v .9,
+      y .kept .1 .1 .1 .1 .1 .1 .1 .1 .1 .1 .1 .0 ∙ v .8,
+      y .kept .1 .1 .1 .1 .1 .1 .1 .1 .1 .1 .1 .1 .0 ∙ v .9,
       f .high,
     )
 

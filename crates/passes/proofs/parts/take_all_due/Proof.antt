@@ -8,7 +8,7 @@ use lib.ListN.{length, getD}
 use Rattle.clauses.specs.Code.{net}
 use Rattle.rules.specs.Answer.{leadOf}
 use Rattle.passes.specs.Passing.{leadAt}
-use Rattle.passes.specs.Taking.{HasMark, Keeps, SeesDue, Extends, Taken}
+use Rattle.passes.specs.Taking.{HasMark, Keeps, marksAt, SeesDue, Extends, Taken}
 use Rattle.passes.proofs.Indexing.{places-more}
 use Rattle.passes.proofs.Appending.{extends-none, extends-more}
 use borrow.Author.Needs.{needs}
@@ -16,13 +16,13 @@ use Rattle.passes.proofs.parts.take_all_due.Statement.{statement}
 use Rattle.passes.proofs.parts.take_all_due.Tie as tie
 
 abbrev Inv-loop : tie.InvT-loop
-Inv-loop codes marks starts tops entries steps old touched sought₀ seen₀ part₀ tags₀ m n₀ i₀ sought seen part tags n i =
-    ((w : ℕ) → HasMark sought₀ w → HasMark sought w ⊎ SeesDue codes starts old touched w seen) × ((j : ℕ) → 0 ≤ j → j < i → ¬ HasMark sought (net (leadAt part₀ old j)))
-    × Keeps seen₀ seen × Taken codes marks seen part tags n × Extends part₀ m part n × (length sought ≡ length sought₀) × (length seen ≡ length seen₀)
+Inv-loop codes marks starts tops entries steps old touched sought₀ seen₀ stamp part₀ tags₀ m n₀ i₀ sought seen part tags n i =
+    ((w : ℕ) → HasMark sought₀ w → HasMark sought w ⊎ SeesDue codes starts old touched w (marksAt stamp seen)) × ((j : ℕ) → 0 ≤ j → j < i → ¬ HasMark sought (net (leadAt part₀ old j)))
+    × Keeps (marksAt stamp seen₀) (marksAt stamp seen) × Taken codes marks stamp seen part tags n × Extends part₀ m part n × (length sought ≡ length sought₀) × (length seen ≡ length seen₀)
     × (length part ≡ length part₀) × (length tags ≡ length tags₀)
 
 abbrev μ-loop : tie.MeasureT-loop
-μ-loop codes marks starts tops entries steps old touched sought₀ seen₀ part₀ tags₀ m n₀ i₀ sought seen part tags n i = m - i
+μ-loop codes marks starts tops entries steps old touched sought₀ seen₀ stamp part₀ tags₀ m n₀ i₀ sought seen part tags n i = m - i
 
 loop-holds : tie.Need-loop-holds Inv-loop μ-loop
 loop-holds c = (λ w h. inl h, λ j z l. absurd (omega arith), λ x h. h, c .before .before .before .before .before .before .before .before .before .before .before .before .pre .1 .1 .1 .1, extends-none _ _, refl, refl, refl, refl)
@@ -58,8 +58,8 @@ loop-again c =
       extends-more (v .4) (e .1 .1 .1),
       y .kept .1 .1 .1 .1 .1 .1 .1 .1 .1 .0 ∙ v .5,
       y .kept .1 .1 .1 .1 .1 .1 .1 .1 .1 .1 .0 ∙ v .6,
-      y .kept .1 .1 .1 .1 .1 .1 .1 .1 .1 .1 .1 .0 ∙ v .7,
-      y .kept .1 .1 .1 .1 .1 .1 .1 .1 .1 .1 .1 .1 .0 ∙ v .8,
+      y .kept .1 .1 .1 .1 .1 .1 .1 .1 .1 .1 .1 .1 .0 ∙ v .7,
+      y .kept .1 .1 .1 .1 .1 .1 .1 .1 .1 .1 .1 .1 .1 .0 ∙ v .8,
     )
 
 same-length : tie.Need-same-length Inv-loop μ-loop

@@ -6,7 +6,7 @@ use native.Mathlib.Omega.{arith}
 use lib.ListN.{length}
 use Rattle.clauses.specs.Code.{net}
 use Rattle.passes.specs.Indexing.{netAt}
-use Rattle.passes.specs.Taking.{Keeps, SeesPlace, Taken}
+use Rattle.passes.specs.Taking.{Keeps, marksAt, SeesPlace, Taken}
 use Rattle.passes.proofs.Taking.{place-keeps}
 use Rattle.gates.proofs.Chains.{Walk, walk-map, walk-begin, walk-next, walk-falls, walk-end}
 use borrow.Author.Needs.{needs}
@@ -14,12 +14,12 @@ use Rattle.passes.proofs.parts.take_changed_chain.Statement.{statement}
 use Rattle.passes.proofs.parts.take_changed_chain.Tie as tie
 
 abbrev Inv-loop : tie.InvT-loop
-Inv-loop codes marks starts heads next w old touched₀ sought₀ seen₀ part₀ tags₀ m n₀ k₀ touched sought seen part tags n k =
-    Walk (netAt codes) (length codes) w (SeesPlace codes starts old seen touched sought) k × Keeps seen₀ seen × Keeps touched₀ touched × Keeps sought₀ sought × Taken codes marks seen part tags n
+Inv-loop codes marks starts heads next w old touched₀ sought₀ seen₀ stamp part₀ tags₀ m n₀ k₀ touched sought seen part tags n k =
+    Walk (netAt codes) (length codes) w (SeesPlace codes starts old (marksAt stamp seen) touched sought) k × Keeps (marksAt stamp seen₀) (marksAt stamp seen) × Keeps touched₀ touched × Keeps sought₀ sought × Taken codes marks stamp seen part tags n
     × (length touched ≡ length touched₀) × (length sought ≡ length sought₀) × (length seen ≡ length seen₀) × (length part ≡ length part₀) × (length tags ≡ length tags₀)
 
 abbrev μ-loop : tie.MeasureT-loop
-μ-loop codes marks starts heads next w old touched₀ sought₀ seen₀ part₀ tags₀ m n₀ k₀ touched sought seen part tags n k = k
+μ-loop codes marks starts heads next w old touched₀ sought₀ seen₀ stamp part₀ tags₀ m n₀ k₀ touched sought seen part tags n k = k
 
 mul-k : tie.Need-mul-k Inv-loop μ-loop
 mul-k c = search needs
@@ -71,7 +71,7 @@ loop-again c =
     let y = c .before .before .before .before .before .before .before .before .before .before .before .take-changed in
     let touched = y .last .1 .1 .1 .1 .1 .0 in
     let sought = y .last .1 .1 .1 .1 .1 .1 .0 in
-    let seen = y .last .1 .1 .1 .1 .1 .1 .1 .0 in
+    let seen = marksAt (a .stamp) (y .last .1 .1 .1 .1 .1 .1 .1 .0) in
     let keeps = y .ensures .1 .0 in (
       walk-next _ _ _ _ _ (c .before .before .before .before .before .before .before .before .before .before .before .before .before .before .before .before .before .before .before .before .before .before .before .before .before .before .before .before .before .before .before .pre .0 .0 .chains)
           (walk-map _ _ _ {Q = SeesPlace (a .codes .now) (a .starts .now) (a .old .now) seen touched sought} (λ q h. place-keeps (keeps .0) (keeps .1) (keeps .2) h) (v .0)) (c .before .before .before .before .before .before .before .before .before .before .before .before .before .before .before .before .before .loop-test .taken)
@@ -83,8 +83,8 @@ loop-again c =
       y .kept .1 .1 .1 .1 .1 .0 ∙ v .5,
       y .kept .1 .1 .1 .1 .1 .1 .0 ∙ v .6,
       y .kept .1 .1 .1 .1 .1 .1 .1 .0 ∙ v .7,
-      y .kept .1 .1 .1 .1 .1 .1 .1 .1 .0 ∙ v .8,
-      y .kept .1 .1 .1 .1 .1 .1 .1 .1 .1 .0 ∙ v .9,
+      y .kept .1 .1 .1 .1 .1 .1 .1 .1 .1 .0 ∙ v .8,
+      y .kept .1 .1 .1 .1 .1 .1 .1 .1 .1 .1 .0 ∙ v .9,
     )
 
 same-length : tie.Need-same-length Inv-loop μ-loop

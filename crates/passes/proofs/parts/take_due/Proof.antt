@@ -9,6 +9,7 @@ use Rattle.passes.specs.Indexing.{startAt}
 use Rattle.passes.proofs.Indexing.{start-of, end-of}
 use Rattle.passes.proofs.Taking.{due-tied}
 use Rattle.passes.proofs.Appending.{extends-none}
+use Rattle.passes.proofs.Stamps.{marks-here}
 use borrow.Author.Needs.{needs}
 use Rattle.passes.proofs.parts.take_due.Statement.{statement}
 use Rattle.passes.proofs.parts.take_due.Tie as tie
@@ -32,7 +33,7 @@ slice-read-if2 c =
     omega (arith, start-of _ _ _ (c .before .before .before .before .before .before .before .before .before .before .before .pre .0 .0) _ (c .before .before .before .before .before .before .before .before .before .before .before .pre .0 .2) (c .before .before .before .before .before .before .before .before .before .before .before .pre .0 .3) .start .inside, c .before .before .before .before .before .before .before .before .before .before .before .pre .1 .0 .1)
 
 returns-2 : tie.Need-returns-2
-returns-2 c = (c .before .before .before .before .before .before .before .before .before .before .before .before .pre .1 .1 .1, ((λ w h. h, λ d. c .if2 .taken), extends-none _ _))
+returns-2 c = (c .before .before .before .before .before .before .before .before .before .before .before .before .pre .1 .1 .1, ((λ w h. h, λ d. marks-here _ _ _ (omega (arith, start-of _ _ _ (c .before .before .before .before .before .before .before .before .before .before .before .before .pre .0 .0) _ (c .before .before .before .before .before .before .before .before .before .before .before .before .pre .0 .2) (c .before .before .before .before .before .before .before .before .before .before .before .before .pre .0 .3) .start .inside, c .before .before .before .before .before .before .before .before .before .before .before .before .pre .1 .0 .1)) (c .if2 .taken)), extends-none _ _))
 
 add-e : tie.Need-add-e
 add-e c =

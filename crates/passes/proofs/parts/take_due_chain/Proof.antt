@@ -6,7 +6,7 @@ use native.Mathlib.Omega.{arith}
 use lib.ListN.{length}
 use Rattle.passes.specs.Indexing.{startAt}
 use Rattle.passes.specs.ByLead.{placeIn, netIn, entryCount}
-use Rattle.passes.specs.Taking.{HasMark, Keeps, Due, Extends, Taken}
+use Rattle.passes.specs.Taking.{HasMark, Keeps, marksAt, Due, Extends, Taken}
 use Rattle.gates.proofs.Chains.{Walk, walk-map, walk-begin, walk-next, walk-falls, walk-end}
 use Rattle.passes.proofs.Appending.{extends-none, extends-more}
 use Rattle.passes.proofs.Taking.{entered-due}
@@ -15,12 +15,12 @@ use Rattle.passes.proofs.parts.take_due_chain.Statement.{statement}
 use Rattle.passes.proofs.parts.take_due_chain.Tie as tie
 
 abbrev Inv-loop : tie.InvT-loop
-Inv-loop codes marks starts tops entries steps w old touched seen₀ part₀ tags₀ m n₀ k₀ seen part tags n k =
-    Walk (netIn entries) (entryCount entries) w (λ s. Due codes starts old touched (placeIn entries s) → HasMark seen (startAt starts (placeIn entries s))) k × Keeps seen₀ seen
-    × Taken codes marks seen part tags n × Extends part₀ m part n × (length seen ≡ length seen₀) × (length part ≡ length part₀) × (length tags ≡ length tags₀)
+Inv-loop codes marks starts tops entries steps w old touched seen₀ stamp part₀ tags₀ m n₀ k₀ seen part tags n k =
+    Walk (netIn entries) (entryCount entries) w (λ s. Due codes starts old touched (placeIn entries s) → HasMark (marksAt stamp seen) (startAt starts (placeIn entries s))) k × Keeps (marksAt stamp seen₀) (marksAt stamp seen)
+    × Taken codes marks stamp seen part tags n × Extends part₀ m part n × (length seen ≡ length seen₀) × (length part ≡ length part₀) × (length tags ≡ length tags₀)
 
 abbrev μ-loop : tie.MeasureT-loop
-μ-loop codes marks starts tops entries steps w old touched seen₀ part₀ tags₀ m n₀ k₀ seen part tags n k = k
+μ-loop codes marks starts tops entries steps w old touched seen₀ stamp part₀ tags₀ m n₀ k₀ seen part tags n k = k
 
 mul-k : tie.Need-mul-k Inv-loop μ-loop
 mul-k c = search needs
@@ -76,7 +76,7 @@ loop-again c =
     let a = c .before .before .before .before .before .before .before .before .before .before .before .before .before .before .before .before .before .before .before .before .before .before .before .before .before .before .args in
     let l = c .before .before .before .before .before .before .before .before .before .before .before .before .before .loop in
     let y = c .before .before .before .before .before .before .before .take-due in
-    let seen = y .last .1 .1 .1 .1 .1 .1 .0 in (
+    let seen = marksAt (a .stamp) (y .last .1 .1 .1 .1 .1 .1 .0) in (
       walk-next _ _ _ _ _ (c .before .before .before .before .before .before .before .before .before .before .before .before .before .before .before .before .before .before .before .before .before .before .before .before .before .before .pre .1 .0 .0 .chains)
           (walk-map _ _ _ {Q = λ s. Due (a .codes .now) (a .starts .now) (a .old .now) (a .touched .now) (placeIn (a .entries .now) s) → HasMark seen (startAt (a .starts .now) (placeIn (a .entries .now) s))}
           (λ s h d. y .ensures .1 .0 .0 _ (h d)) (l .inv .0))
@@ -103,7 +103,7 @@ returns c =
     let a = c .before .before .before .before .before .before .before .before .before .before .before .before .before .before .args in
     let l = c .before .loop in
     let i = l .inv in
-    (i .2, ((i .1, entered-due (a .codes .now) (a .starts .now) (a .old .now) (a .touched .now) (a .entries .now) (l .seen) (a .w) (c .before .before .before .before .before .before .before .before .before .before .before .before .before .before .pre .1 .0 .1) (walk-end _ _ _ (i .0) (c .loop-test .left))), i .3))
+    (i .2, ((i .1, entered-due (a .codes .now) (a .starts .now) (a .old .now) (a .touched .now) (a .entries .now) (marksAt (a .stamp) (l .seen)) (a .w) (c .before .before .before .before .before .before .before .before .before .before .before .before .before .before .pre .1 .0 .1) (walk-end _ _ _ (i .0) (c .loop-test .left))), i .3))
 
 pub take-due-chain-spec : {M : Type 1} → statement M
 take-due-chain-spec =

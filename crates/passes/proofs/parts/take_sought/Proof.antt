@@ -5,7 +5,7 @@ use mathlib.Core.Logic.{inl}
 use Prim.Native.Nat.{ℕ}
 use native.Mathlib.Omega.{arith}
 use lib.ListN.{set}
-use Rattle.passes.specs.Taking.{HasMark, SeesDue}
+use Rattle.passes.specs.Taking.{HasMark, marksAt, SeesDue}
 use Rattle.passes.proofs.Appending.{extends-none}
 use Rattle.passes.proofs.Taking.{mark-outside, mark-gone, mark-left, mark-rest}
 use borrow.Author.Needs.{needs}
@@ -57,7 +57,7 @@ returns-3 c =
     let a = c .before .before .before .before .before .before .before .before .before .before .before .before .before .before .before .before .before .before .before .before .before .before .before .before .before .before .before .args in
     let y = c .before .before .before .before .before .before .take-due-chain in
     let w = c .before .before .before .before .before .before .before .before .before .before .before .before .before .lead-net .result in
-    let seen = y .last .1 .1 .1 .1 .1 .1 .1 .1 .1 .0 in (
+    let seen = marksAt (a .stamp) (y .last .1 .1 .1 .1 .1 .1 .1 .1 .1 .0) in (
       y .ensures .0,
       (
         (y .ensures .1 .0 .0, mark-left (a .sought .now) w),
