@@ -4,7 +4,7 @@ use mathlib.Core.Path.{_≡_, refl, sym, _∙_, ap, subst, subst⁻¹}
 use mathlib.Core.Logic.{_≢_, _⊎_, inl, inr, ⊎-elim}
 use mathlib.Core.Bool.{Bool, true, false, not, true≢false, _&&_}
 use mathlib.Core.List.{List}
-use Prim.Native.Nat.{ℕ, _+_, _-_, _*_, _/_, _%_, _≤_, _<_}
+use Prim.Native.Nat.{ℕ, _+_, _-_, _/_, _%_, _≤_, _<_}
 use native.Mathlib.Omega.{arith}
 use native.Mathlib.Decide.{decLt, ℕ-discrete}
 use lib.Dec.{eqb, ltb}
@@ -14,11 +14,9 @@ use borrow.Author.Tests.{eq-eqb, ne-eqb, lt-ltb, le-ltb}
 use Rattle.clauses.specs.Code.{net}
 use Rattle.gates.specs.Sign.{flip, isInverse}
 use Rattle.gates.specs.Found.{clauseAt, LiteralAt}
-use Rattle.gates.proofs.Signs.{net-flip}
 use Rattle.gates.proofs.Rows.{literal-some}
 use Rattle.rules.specs.Answer.{leadOf}
 use Rattle.passes.specs.Passing.{leadAt, First}
-use Rattle.passes.specs.Xors.{LeadRow}
 use Rattle.passes.specs.Parts.{Moved, ChangedIn, Shares, TiedAt, SelectAt, ReadAt, Active, constant, tie, side, tied, select}
 use Rattle.passes.specs.Indexing.{netAt, startAt, tieAt, Listed}
 use Rattle.passes.specs.ByLead.{placeIn, netIn, entryCount, Entered, AllEntered, Grows}
@@ -258,25 +256,8 @@ read-is : (starts : List ℕ) (q : ℕ) → 2 ≤ tieAt starts q → isRead star
 unfolding isRead
 read-is starts q h = lt-ltb 1 (tieAt starts q) (omega arith)
 
--- the net of a lead
-net-lead : (old : List ℕ) (c : ℕ) → net c ≢ 0 → net c ≤ length old → net (leadOf old c) ≡ net (getD old (net c - 1) 0)
-net-lead old c n h = ap net (sym (lead-inside old c n h)) ∙ net-flip (isInverse c) (getD old (net c - 1) 0)
-
--- .. of a row's entry
-pub net-entry : (old : List ℕ) → LeadRow old → (w : ℕ) → net (getD old w 0) ≤ length old
-net-entry old leads w = go (decLt w (length old))
-  where
-    go : Dec (w < length old) → net (getD old w 0) ≤ length old
-    go (yes h) =
-        let c = 2 * (w + 1) in
-        let n : net c ≢ 0 = λ z. omega arith in
-        let l : net c ≤ length old = omega arith in
-        let s : net c - 1 ≡ w = omega arith in
-        omega (arith, leads .low c, net-lead old c n l, ap (λ (i : ℕ). net (getD old i 0)) s)
-    go (no n) = let e : getD old w 0 ≡ 0 = List·getD-eq-default old 0 (omega arith) in omega (arith, e)
-
 module _ (codes marks starts older old : List ℕ) (listed : Listed codes marks starts) (nets : (q : ℕ) → net (getD codes q 0) ≤ length old)
-    (size : length older ≡ length old) (leads : LeadRow old) where
+    (size : length older ≡ length old) where
   moved-variable : (q : ℕ) → Moved older old (getD codes q 0) → netAt codes q ≢ 0
   moved-variable q h z = h (sym (lead-constant older (getD codes q 0) z) ∙ lead-constant old (getD codes q 0) z)
 

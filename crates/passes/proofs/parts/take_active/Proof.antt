@@ -109,7 +109,7 @@ returns c =
         t .is-part,
         (
           holds-active _ _ _ _ _ _ _ _ _ t
-              (active-seen _ _ _ _ _ (p .1 .0 .listed) (p .1 .1 .0 .0) (p .1 .1 .1 .0 .0) (p .1 .1 .0 .1) (a .stamp) (x .last .1 .1 .1 .1 .1 .1 .1 .1 .1 .1 .1 .1 .0) (x .last .1 .1 .1 .1 .1 .1 .1 .1 .1 .1 .0) (x .last .1 .1 .1 .1 .1 .1 .1 .1 .1 .1 .1 .0) (x .ensures .1 .0) (x .ensures .0) (omega (arith, x .ensures .0 .count, marks-fit (a .stamp) (x .last .1 .1 .1 .1 .1 .1 .1 .1 .1 .1 .1 .1 .0), seen, x .kept .1 .1 .1 .1 .1 .1 .1 .1 .1 .1 .1 .1 .1 .1 .0, p .1 .1 .1 .1 .0 .1))
+              (active-seen _ _ _ _ _ (p .1 .0 .listed) (p .1 .1 .0 .0) (p .1 .1 .1 .0 .0) (a .stamp) (x .last .1 .1 .1 .1 .1 .1 .1 .1 .1 .1 .1 .1 .0) (x .last .1 .1 .1 .1 .1 .1 .1 .1 .1 .1 .0) (x .last .1 .1 .1 .1 .1 .1 .1 .1 .1 .1 .1 .0) (x .ensures .1 .0) (x .ensures .0) (omega (arith, x .ensures .0 .count, marks-fit (a .stamp) (x .last .1 .1 .1 .1 .1 .1 .1 .1 .1 .1 .1 .1 .0), seen, x .kept .1 .1 .1 .1 .1 .1 .1 .1 .1 .1 .1 .1 .1 .1 .0, p .1 .1 .1 .1 .0 .1))
               (marksAt (a .stamp) (y .last .1 .1 .1 .1 .1 .1 .1 .1 .1 .0)) (y .ensures .1 .0) (y .ensures .1 .1)),
           ((m .0, m .1), t .older),
         ),

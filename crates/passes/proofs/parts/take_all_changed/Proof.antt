@@ -12,7 +12,6 @@ use Rattle.passes.specs.ByLead.{entryCount, ByLead, Entered, Grows}
 use Rattle.passes.specs.Taking.{marksAt, hasMoved, SeesNet, SeesMoved, Taken}
 use Rattle.passes.proofs.ByLead.{grows-none, grows-on, entered-kept}
 use Rattle.passes.proofs.Taking.{nets-first, nets-more, place-keeps, moved-entered}
-use borrow.Author.Needs.{needs}
 use Rattle.passes.proofs.parts.take_all_changed.Statement.{statement}
 use Rattle.passes.proofs.parts.take_all_changed.Tie as tie
 

@@ -1,7 +1,5 @@
 -- `passes::touched::touch_tied` meets its contract.
 -- Assumes nothing.
-use mathlib.Core.Path.{_∙_}
-use native.Mathlib.Omega.{arith}
 use Rattle.passes.proofs.Taking.{mark-put}
 use borrow.Author.Needs.{needs}
 use Rattle.passes.proofs.touched.touch_tied.Statement.{statement}
