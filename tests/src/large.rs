@@ -117,21 +117,23 @@ fn halves(r: &mut Random) -> List {
 
 /// Two chains of ANDs in which each pair of nets that is joined makes the next pair alike. In the first the lowest net comes
 /// last, so that all nets of the group get another lead in each round; in the second it comes first. Other ANDs take the
-/// last nets of that one.
+/// last nets of that one, or two that are joined 255 rounds apart.
 fn and_chains(r: &mut Random) -> List {
-    let (falling, rising) = (r.between(230, 300) as i64, r.between(200, 260) as i64);
+    let (falling, rising) = (r.between(230, 300) as i64, r.between(260, 300) as i64);
     let late = r.between(3, 60) as i64;
     let first = falling + 1;
     let last = first + rising;
     let (a, b, c) = (last + 1, last + 2, last + 3);
+    let apart = c + late + 1;
     let mut clauses: Vec<Vec<i64>> = (1..falling).flat_map(|i| and_clauses(i, &[i + 1, a])).collect();
     clauses.extend((first..last).flat_map(|i| and_clauses(i + 1, &[i, b])));
     clauses.extend((0..late).flat_map(|i| and_clauses(c + 1 + i, &[last - i, c])));
+    clauses.extend((first..=last - 255).zip(apart..).flat_map(|(i, l)| and_clauses(l, &[i, i + 255])));
     for (x, y) in [(falling - 1, falling), (first, first + 1)] {
         clauses.extend([vec![x, -y], vec![-x, y]]);
     }
     r.shuffle(&mut clauses);
-    List { nets: (c + late) as usize, clauses }
+    List { nets: (apart + last - 255 - first) as usize, clauses }
 }
 
 /// Over a million multiplexers: each of 1,022 nets on either side of one select and one output.

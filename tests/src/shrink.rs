@@ -1,20 +1,36 @@
 //! Makes a failing list or text smaller as long as it still fails.
 
 use crate::lists::List;
+use std::time::{Duration, Instant};
 
-/// Tries are bounded, since each may run the program.
-const MOST_TRIES: usize = 1_500;
+/// Tries are bounded, in number and in time, since each may run the program and the reference.
+struct Tries {
+    left: usize,
+    end: Instant,
+}
+
+impl Tries {
+    fn new() -> Tries {
+        Tries { left: 1_500, end: Instant::now() + Duration::from_secs(60) }
+    }
+
+    /// Whether one more may be made; it counts.
+    fn next(&mut self) -> bool {
+        let more = self.left > 0 && Instant::now() < self.end;
+        self.left = self.left.saturating_sub(1);
+        more
+    }
+}
 
 /// Drops stretches of items, long ones first, as long as what is left fails.
-fn fewer<A: Clone>(items: &[A], tries: &mut usize, fails: &mut dyn FnMut(&[A]) -> bool) -> Vec<A> {
+fn fewer<A: Clone>(items: &[A], tries: &mut Tries, fails: &mut dyn FnMut(&[A]) -> bool) -> Vec<A> {
     let mut small = items.to_vec();
     let mut stretch = small.len();
     while stretch > 0 {
         let mut at = 0;
-        while at < small.len() && *tries < MOST_TRIES {
+        while at < small.len() && tries.next() {
             let end = small.len().min(at + stretch);
             let rest = [&small[..at], &small[end..]].concat();
-            *tries += 1;
             if fails(&rest) {
                 small = rest;
             } else {
@@ -28,7 +44,7 @@ fn fewer<A: Clone>(items: &[A], tries: &mut usize, fails: &mut dyn FnMut(&[A]) -
 
 /// A list with fewer clauses, literals and nets.
 pub fn list(failing: &List, fails: &dyn Fn(&List) -> bool) -> List {
-    let mut tries = 0;
+    let mut tries = Tries::new();
     let nets = failing.nets;
     let mut clauses = fewer(&failing.clauses, &mut tries, &mut |c| fails(&List { nets, clauses: c.to_vec() }));
     for i in 0..clauses.len() {
@@ -60,5 +76,5 @@ fn renumbered(list: &List) -> List {
 
 /// A text with fewer bytes.
 pub fn text(failing: &[u8], fails: &dyn Fn(&[u8]) -> bool) -> Vec<u8> {
-    fewer(failing, &mut 0, &mut |bytes| fails(bytes))
+    fewer(failing, &mut Tries::new(), &mut |bytes| fails(bytes))
 }
