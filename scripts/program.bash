@@ -1,53 +1,190 @@
+# shellcheck shell=bash disable=SC2154
 # The program of this repository, for the scripts at its root: sourced, with `root` set to the repository's root and `me` to the
 # script's name.
 
 program=$root/target/bin/cuddremai
 # Made when the program was last proved and built, with the time at which that began.
 stamp=$root/target/compare.stamp
+# All that rt said when it last proved the program.
+log=$root/target/compare.log
+# While the program is proved: the process group that does it.
+prover=''
+
+say() { printf '%s: %s\n' "$me" "$1" >&2; }
 
 trouble() {
-    printf '%s: %s\n' "$me" "$1" >&2
+    say "$1"
     exit 2
 }
 
-# Whether the program is there and no older than its sources.
-is_built() {
-    [ -x "$program" ] && [ -e "$stamp" ] || return 1
-    local crate sources=("$root/crates.txt")
-    for crate in cuddremai $(sed -n 's/^cuddremai://p' "$root/crates.txt"); do
-        if [ -d "$root/crates/$crate" ]; then
-            sources+=("$root/crates/$crate")
-        fi
+# The crates of this repository that the program is made of, itself last.
+crates() {
+    local crate
+    for crate in $(sed -n 's/^cuddremai://p' "$root/crates.txt") cuddremai; do
+        [ ! -d "$root/crates/$crate" ] || printf '%s\n' "$crate"
     done
-    [ -z "$(find "${sources[@]}" -newer "$stamp" -print -quit)" ]
+}
+
+# Prints a source that is newer than the last build, if there is one, and NUL.
+newer_source() {
+    local crate sources=("$root/crates.txt")
+    for crate in $(crates); do
+        sources+=("$root/crates/$crate")
+    done
+    find "${sources[@]}" -newer "$stamp" -print0 -quit
+}
+
+# Whether the program is there and no older than its sources; if not, `why` says so.
+is_built() {
+    why='the program has not been proved and built'
+    [ -x "$program" ] && [ -e "$stamp" ] || return 1
+    local newer
+    IFS= read -r -d '' newer < <(newer_source)
+    why="the program is older than $newer"
+    [ -z "$newer" ]
 }
 
 # Proves and builds the program, unless that is done. One process at a time does it.
 build() {
     is_built && return
-    command -v rt >/dev/null || trouble "the program has to be proved and built first, and rt (the Rattle kit) is not on the path"
-    mkdir -p "$root/target" && : >>"$root/target/compare.lock" || trouble "cannot write to $root/target"
-    (
-        flock 9
-        is_built && exit
-        printf '%s: proving and building the program; the first time this takes some minutes\n' "$me" >&2
-        touch "$stamp.new"
-        if ! (cd "$root" && rt check cuddremai) >"$root/target/compare.log" 2>&1 </dev/null || ! [ -x "$program" ]; then
-            tail -n 20 "$root/target/compare.log" >&2
-            exit 2
-        fi
-        mv "$stamp.new" "$stamp"
-    ) 9>>"$root/target/compare.lock" || trouble "the program could not be proved and built; all that rt said is in $root/target/compare.log"
+    command -v rt >/dev/null || trouble "$why, and rt (the Rattle kit) is not on the path"
+    { mkdir -p "$root/target" && exec 9>>"$root/target/compare.lock" && : >>"$log"; } || trouble "cannot write to $root/target"
+    if ! flock -n 9; then
+        say 'another process proves and builds the program; waiting for it'
+        # Bash attends to signals between two commands.
+        until flock -w 1 9; do :; done
+    fi
+    is_built || prove
+    exec 9>&-
 }
 
-# Runs the program on its standard input: what it prints goes to `printed`, but for the last LF. Answers 0 for a sheet, 1 for a refusal.
+# Has rt prove and build the program, in a process group of its own so that all of it can be ended, and shows how far it is.
+prove() {
+    local said
+    say 'proving and building the program; the first time this takes some minutes'
+    touch "$stamp.new"
+    exec {said}< <(cd "$root" && exec setsid rt check cuddremai 2>&1 </dev/null)
+    prover=$!
+    follow "$said" >"$log"
+    exec {said}<&-
+    if ! wait "$prover" || ! [ -x "$program" ]; then
+        tail -n 20 "$log" >&2
+        trouble "the program could not be proved and built; all that rt said is in $log"
+    fi
+    prover=''
+    mv "$stamp.new" "$stamp"
+}
+
+# For traps: ends the proof, if one is going on.
+end_prover() {
+    [ -n "$prover" ] || return
+    kill -TERM -- "-$prover" 2>/dev/null || kill -TERM "$prover" 2>/dev/null
+    [ ! -t 2 ] || printf '\n' >&2
+}
+
+# Copies what rt says on a descriptor to standard output, and says on standard error which crate is at hand.
+follow() {
+    local needed line text='' proved=' ' shown='' began=$SECONDS status
+    mapfile -t needed < <(crates)
+    while true; do
+        IFS= read -r -t 0.5 -u "$1" line
+        status=$?
+        text+=$line
+        if [ $status -gt 128 ]; then
+            # Nothing was said for half a second, so a crate is at hand.
+            progress
+            continue
+        fi
+        [ $status -eq 0 ] || break
+        printf '%s\n' "$text"
+        [[ ! $text =~ ^'rt: '([A-Za-z0-9_]+)' proved (' ]] || proved+="${BASH_REMATCH[1]} "
+        text=''
+    done
+    printf '%s' "$text"
+    [ ! -t 2 ] || printf '\r\033[K' >&2
+}
+
+# Says the first crate that is not proved yet: on a terminal each time, in one line, and elsewhere when it is another one.
+progress() {
+    local crate at='' number=1 text
+    for crate in "${needed[@]}"; do
+        if [[ $proved == *" $crate "* ]]; then
+            number=$((number + 1))
+        else
+            at=${at:-$crate}
+        fi
+    done
+    [ -n "$at" ] || return
+    text="$me: proving $at ($number of ${#needed[@]})"
+    if [ -t 2 ]; then
+        printf '\r\033[K%s, %d s' "$text" $((SECONDS - began)) >&2
+    elif [ "$text" != "$shown" ]; then
+        printf '%s, %d s\n' "$text" $((SECONDS - began)) >&2
+    fi
+    shown=$text
+}
+
+# Runs the program on its standard input: what it prints goes to `printed`. Answers 0 for a sheet, 1 for a refusal.
 run() {
-    printed=$("$program")
-    case $printed in
-    verdict,*) return 0 ;;
-    refusal,*) return 1 ;;
+    printed=$("$program" && printf .)
+    printed=${printed%.}
+    judge "$printed"
+    local kind=$?
+    [ $kind -ne 2 ] || trouble "the program printed neither a sheet nor a refusal"
+    return $kind
+}
+
+# Tells a whole sheet (0), a refusal (1) and any other text (2) apart. `outcome` is then the verdict, `refusal` with its number, or `none`.
+judge() {
+    outcome=none place=''
+    case $1 in
+    verdict,*) judge_sheet "$1" ;;
+    refusal,*) judge_refusal "$1" ;;
+    *) return 2 ;;
     esac
-    trouble "the program printed neither a sheet nor a refusal"
+}
+
+judge_refusal() {
+    [[ $1 =~ ^refusal,place$'\n'([1-9][0-9]?),([0-9]+)$'\n'$ ]] || return 2
+    outcome="refusal ${BASH_REMATCH[1]}" place=${BASH_REMATCH[2]}
+    return 1
+}
+
+# A sheet is whole if it ends with the line of its last net; on contradiction it has no line of a net.
+judge_sheet() {
+    local head=verdict,rounds,variables,ands,xors,ites,groups$'\n' verdict nets rest
+    [[ $1 =~ ^$head(contradiction|settled|unfinished),[0-9]+,([0-9]+)(,[0-9]+){4}$'\n' ]] || return 2
+    verdict=${BASH_REMATCH[1]} nets=${BASH_REMATCH[2]} rest=${1#"${BASH_REMATCH[0]}"}
+    case $verdict,$nets in
+    contradiction,*) [ -z "$rest" ] ;;
+    *,0) [ "$rest" = $'net,lead\n' ] ;;
+    *) [[ $rest == $'net,lead\n1,'*$'\n' && $'\n'$rest == *$'\n'"$nets,"+([-0-9TF])$'\n' ]] ;;
+    esac || return 2
+    outcome=$verdict
+}
+
+# Says the refusal in `outcome` and `place` in the words of the table in docs/REFUSALS.md.
+explain() {
+    local row where=''
+    mapfile -t row < <(refusal_row "${outcome#refusal }" 2>/dev/null)
+    if [ ${#row[@]} -ne 3 ]; then
+        say "$outcome, place $place: docs/REFUSALS.md says what it means"
+        return
+    fi
+    case ${row[1]} in
+    *byte*) where=" (byte $place, counted from 0)" ;;
+    *entry*) where=" (entry $place, counted from 0)" ;;
+    esac
+    say "$outcome: ${row[0]}$where: ${row[2]}"
+}
+
+# Of the table's row with a number: the cells below `it means`, `place` and `what to do`, a line for each.
+refusal_row() {
+    awk -F ' *[|] *' -v number="$1" '
+        $2 == "number" { for (i = 3; i < NF; i++) column[$i] = i }
+        $2 == number && ("it means" in column) && ("place" in column) && ("what to do" in column) {
+            print $column["it means"]; print $column["place"]; print $column["what to do"]; exit
+        }' "$root/docs/REFUSALS.md"
 }
 
 # Tests that a list can be read.

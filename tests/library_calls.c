@@ -65,9 +65,9 @@ static void reading(void)
     fresh();
     nets = clauses = 7;
     entries = place = 7;
-    CHECK(cuddremai_read(input, strlen(two_ands), row, ENTRIES - 1, &nets, &clauses, &entries, &place) == 4);
+    CHECK(cuddremai_read(input, strlen(two_ands), row, ENTRIES - 1, &nets, &clauses, &entries, &place) == CUDDREMAI_ROW_TOO_SHORT);
     CHECK(place == 0);
-    CHECK(cuddremai_read((const uint8_t *)"p cnf 1 1\n-0 0", 14, row, CUDDREMAI_ROW, &nets, &clauses, &entries, &place) == 3);
+    CHECK(cuddremai_read((const uint8_t *)"p cnf 1 1\n-0 0", 14, row, CUDDREMAI_ROW, &nets, &clauses, &entries, &place) == CUDDREMAI_WORD);
     CHECK(place == 10);
     CHECK(nets == 7 && clauses == 7 && entries == 7 && is_fresh(row, 0, sizeof row));
 }
@@ -83,9 +83,9 @@ static void printing(void)
 
     fresh();
     written = place = 7;
-    CHECK(cuddremai_print(4, 6, entries_of_two_ands, ENTRIES, text, length - 1, &written, &place) == 13);
+    CHECK(cuddremai_print(4, 6, entries_of_two_ands, ENTRIES, text, length - 1, &written, &place) == CUDDREMAI_BUFFER_TOO_SHORT);
     CHECK(place == 0);
-    CHECK(cuddremai_print(3, 6, entries_of_two_ands, ENTRIES, text, length, &written, &place) == 10);
+    CHECK(cuddremai_print(3, 6, entries_of_two_ands, ENTRIES, text, length, &written, &place) == CUDDREMAI_ENTRY_TOO_LARGE);
     CHECK(place == 10);
     CHECK(written == 7 && is_fresh(text, 0, sizeof text));
 }
@@ -110,8 +110,8 @@ static void closing(void)
     fresh();
     memset(&s, 0x5a, sizeof s);
     kept = s;
-    CHECK(cuddremai_close(4, 6, entries_of_two_ands, ENTRIES, 5, leads, 3, work, CUDDREMAI_WORK, &s, &place) == 8);
-    CHECK(cuddremai_close(4, 6, entries_of_two_ands, ENTRIES, 5, leads, 4, work, CUDDREMAI_WORK - 1, &s, &place) == 9);
+    CHECK(cuddremai_close(4, 6, entries_of_two_ands, ENTRIES, 5, leads, 3, work, CUDDREMAI_WORK, &s, &place) == CUDDREMAI_LEADS_TOO_SHORT);
+    CHECK(cuddremai_close(4, 6, entries_of_two_ands, ENTRIES, 5, leads, 4, work, CUDDREMAI_WORK - 1, &s, &place) == CUDDREMAI_WORK_TOO_SHORT);
     CHECK(memcmp(&s, &kept, sizeof s) == 0 && is_fresh(leads, 0, sizeof leads) && is_fresh(work, 0, sizeof work));
 }
 
@@ -131,8 +131,8 @@ static void sheets(void)
 
     fresh();
     written = place = 7;
-    CHECK(cuddremai_compare(input, 9, text, CUDDREMAI_SHEET, &written, &place) == 12);
-    CHECK(cuddremai_compare(input, 0, text, CUDDREMAI_SHEET, &written, &place) == 2);
+    CHECK(cuddremai_compare(input, 9, text, CUDDREMAI_SHEET, &written, &place) == CUDDREMAI_CLAUSE_COUNT);
+    CHECK(cuddremai_compare(input, 0, text, CUDDREMAI_SHEET, &written, &place) == CUDDREMAI_HEADER);
     CHECK(written == 7 && place == 0 && is_fresh(text, 0, sizeof text));
     CHECK(cuddremai_compare(input, strlen(two_ands), text, CUDDREMAI_SHEET, &written, &place) == 0);
     CHECK(written == length && memcmp(text, sheet_of_two_ands, length) == 0 && is_fresh(text, length, sizeof text));

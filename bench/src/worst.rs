@@ -7,7 +7,12 @@ pub fn lists() -> Vec<(&'static str, List)> {
     vec![
         ("ITEs of one select and output, rounds elsewhere", largest(|n| shared_ites(n, false))),
         ("ITEs of one select and output, joined one by one", largest(|n| shared_ites(n, true))),
+        ("XORs that share two nets", largest(shared_xors)),
         ("ANDs over 26 nets", largest(ands_over_few)),
+        ("80 exclusive nets, wide clauses", largest(|n| exclusive_nets(80, 10, 2, n))),
+        ("75 exclusive nets, wide clauses, nets false one by one", largest(|n| exclusive_nets(75, 11, 42, n))),
+        ("wide clauses of outputs, a lead that falls", largest(|n| outputs_with_group(42, 12, 620, false, n))),
+        ("the same with equal signatures modulo 4,096", largest(|n| outputs_with_group(15, 24, 440, true, n))),
         ("four wide ANDs, inputs true one by one", largest(wide_ands)),
         ("chain of units", largest(unit_chain)),
         ("chain of ANDs whose lead falls", largest(falling_leads)),
@@ -41,16 +46,68 @@ fn shared_ites(n: usize, through: bool) -> List {
     List { nets: if through { n + 2 } else { others.end as usize - 1 }, clauses }
 }
 
+/// The XORs of nets 1 and 2 with each of n nets: whichever of the two is the select and whichever the output, any two of the
+/// n nets make an ITE.
+fn shared_xors(n: usize) -> List {
+    let signed = |x: i32| [vec![1, 2, x], vec![1, -2, -x], vec![-1, 2, -x], vec![-1, -2, x]];
+    List { nets: n + 2, clauses: (3..n as i32 + 3).flat_map(signed).collect() }
+}
+
+/// None of the first nets is true together with one of the first `outputs`.
+fn exclusive(outputs: i32, nets: i32) -> Vec<Vec<i32>> {
+    (1..=outputs).flat_map(|a| (a + 1..=nets).map(move |b| vec![-a, -b])).collect()
+}
+
 /// At most one of 26 nets is true; each of n clauses of twelve of them makes twelve ANDs.
 fn ands_over_few(n: usize) -> List {
     let nets = 26;
     let mut random = Random(1);
-    let mut clauses: Vec<Vec<i32>> = (1..nets).flat_map(|a| (a + 1..=nets).map(move |b| vec![-a, -b])).collect();
+    let mut clauses = exclusive(nets, nets);
     for _ in 0..n {
         let mut rest: Vec<i32> = (1..=nets).collect();
         clauses.push((0..12).map(|_| rest.swap_remove(random.below(rest.len()))).collect());
     }
     List { nets: nets as usize, clauses }
+}
+
+/// At most one of the nets is true, and the first ones become false one after another. Each of n clauses has all nets but three of the
+/// last ones; no two clauses lack the same two, so that no two ANDs have the same inputs.
+fn exclusive_nets(nets: i32, side: i32, rounds: i32, n: usize) -> List {
+    let mut clauses = exclusive(nets, nets);
+    clauses.extend(chain((1..=rounds).map(|a| -a)));
+    let first = nets - 3 * side + 1;
+    for i in 0..n as i32 {
+        let (a, b) = (i / side % side, i % side);
+        let left_out = [first + a, first + side + b, first + 2 * side + (a + b) % side];
+        clauses.push((1..=nets).filter(|x| !left_out.contains(x)).collect());
+    }
+    List { nets: nets as usize, clauses }
+}
+
+/// Each of n clauses has the first nets, which are outputs of ANDs, one net of a group that gets another lead in each round, and half
+/// of the `free` nets between them. The halves may be such that the product's signatures are equal modulo its number of buckets.
+fn outputs_with_group(outputs: i32, free: i32, rounds: usize, equal: bool, n: usize) -> List {
+    let before = outputs + free;
+    let group = falling_leads(rounds - 1);
+    let member = before + group.nets as i32 - 1;
+    let behind = |x: &i32| x.signum() * (x.abs() + before);
+    let mut clauses = exclusive(outputs, before);
+    clauses.extend((1..=outputs).map(|a| vec![-a, -member]));
+    clauses.extend(group.clauses.iter().map(|clause| clause.iter().map(behind).collect()));
+    let halves = (0..1_u32 << free)
+        .filter(|half| half.count_ones() == free as u32 / 2)
+        .map(|half| (0..free).filter(|i| half >> i & 1 == 1).map(|i| outputs + 1 + i).collect::<Vec<i32>>())
+        .filter(|half| !equal || half.iter().map(|x| product_hash(*x)).sum::<u64>() % 4_096 == 0);
+    clauses.extend(halves.take(n).map(|half| (1..=outputs).chain([member]).chain(half).collect()));
+    List { nets: before as usize + group.nets, clauses }
+}
+
+/// What a net that is its own lead adds to a signature in the product.
+fn product_hash(net: i32) -> u64 {
+    let prime = 4_294_967_291;
+    let x = 2 * net as u64 * 2_654_435_761 % prime;
+    let square = x * x % prime;
+    square * square % 4_503_599_627_370_449
 }
 
 /// Four ANDs of the same n nets, which become true one after another.

@@ -1,20 +1,18 @@
 -- What an answer counts lies within what was lent.
 -- Assumes nothing.
 use mathlib.Core.Path.{_≡_}
-use mathlib.Core.List.{List, [], _∷_}
+use mathlib.Core.List.{List}
 use Prim.Native.Nat.{ℕ, _≤_}
 use native.Mathlib.Omega.{arith}
 use lib.IntN.{ℤ}
 use borrow.Author.Tests.{ltb-false}
 use lib.ListN.{length, drop, length-append}
 use Rattle.clauses.specs.Printing as Printing
-use Rattle.clauses.specs.Printing.{listText, printing, written}
+use Rattle.clauses.specs.Printing.{listText, printingTests, printing, written}
 use Rattle.clauses.specs.Reading as Reading
-use Rattle.clauses.specs.Reading.{Sizes, Heading, lines, heading, wordsOf, Body, body, readNumbers, readBody, readHeading, reading, accepted}
+use Rattle.clauses.specs.Reading.{Sizes, numbersTests, bodyTests, readingTests, reading, accepted}
 use Rattle.clauses.specs.Limit.{maxNets}
-use Rattle.clauses.specs.Refusal.{textTooLong, rowTooShort, tooManyNets, tooManyClauses, tooManyEntries, entryTooLarge, notEnded, clauseCount}
 use Rattle.clauses.specs.declared.refusal.Refusal.{Refusal}
-use Rattle.clauses.specs.declared.refusal.Refusal.the-variants.{Header, Word}
 use Rattle.clauses.specs.declared.printing.Printing.the-variants.{Written}
 use Rattle.clauses.specs.declared.reading.ListSize.{ListSize}
 use Rattle.clauses.specs.declared.reading.Reading.the-variants.{Accepted}
@@ -38,26 +36,12 @@ module _ (row : List ℤ) where
       let nets : s .nets ≡ t .nets = cc in
       (omega (arith, same, length-append numbers (drop (length numbers) row)), omega (arith, nets))
 
-  body-within : (s : Sizes) (b : Body) → Within (readBody row s b)
-  unfolding readBody readNumbers
-  body-within s (Body.malformed p) = refused-within (Word p)
-  body-within s (Body.entries numbers) =
-      decide-has (Reading.refused row) (accepted row s numbers) Within
-      (rowTooShort (length row) numbers ∷ tooManyNets (s .nets) ∷ tooManyClauses (s .clauses) ∷ tooManyEntries numbers
-      ∷ entryTooLarge (s .nets) numbers ∷ notEnded numbers ∷ clauseCount (s .clauses) numbers ∷ [])
-      (λ t k. refused-within (t .refusal)) (λ n. accepted-within s numbers (ltb-false _ _ (n .1 .0)))
-
-  heading-within : (h : Heading) → Within (readHeading row h)
-  unfolding readHeading
-  heading-within (Heading.malformed p) = refused-within (Header p)
-  heading-within (Heading.sized s ls) = body-within s (body (wordsOf ls))
-
   pub read-within : (text : List ℕ) (s : ListSize) → reading text row .result ≡ Accepted s
       → (s .entries ≤ length (reading text row .row)) × (s .nets ≤ maxNets)
-  unfolding reading Within
+  unfolding reading Within readingTests bodyTests numbersTests
   read-within text =
-      decide-either (Reading.refused row) (readHeading row (heading (length text) (lines 0 text))) Within refused-within
-      (heading-within (heading (length text) (lines 0 text))) (textTooLong text ∷ [])
+      decide-has (Reading.refused row) _ Within (readingTests text row) (λ t k h. refused-within (t .refusal))
+      (λ n. accepted-within _ _ (ltb-false _ _ (n .1 .1 .1 .1 .0)))
 
 -- Printing
 
@@ -80,4 +64,4 @@ module _ (buffer : List ℕ) (n : ℕ) where
   unfolding printing BytesWithin
   print-within v c row =
       decide-either (Printing.refused buffer) (written buffer (listText v c row)) BytesWithin refuses-within
-      (written-within (listText v c row)) _
+      (written-within (listText v c row)) (printingTests v c row buffer)

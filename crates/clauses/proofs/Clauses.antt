@@ -1,18 +1,21 @@
 -- Clauses as sets: the computed tests say what they compute, and clauseSets has each clause that counts once.
 -- Assumes nothing.
-use mathlib.Core.Path.{_≡_, refl, sym, _∙_, subst, subst⁻¹}
+use mathlib.Core.Path.{_≡_, refl, sym, _∙_, ap, subst, subst⁻¹}
 use mathlib.Core.Logic.{_⊎_, inl, inr}
 use mathlib.Core.Bool.{Bool, true, false, not, _&&_, _||_, true≢false}
 use mathlib.Core.List.{List, [], _∷_, List·Memᴰ, List·Memᴰ·head, List·Memᴰ·tail, Memᴰ·cast, List·Memᴰ·not-nil}
 use Prim.Native.Nat.{ℕ, _≤_}
+use native.Mathlib.Decide.{ℕ-discrete}
+use native.Mathlib.Omega.{arith}
 use lib.Dec.{eqb, leb}
+use lib.ListN.{length}
 use borrow.Author.Tests.{eq-eqb, eqb-true, leb-true}
 use Rattle.clauses.specs.Code.{negate, net}
 use Rattle.clauses.specs.Clause.{Mem, Within, Same, Tautology, Present}
-use Rattle.clauses.specs.Lists.{any}
+use Rattle.clauses.specs.Lists.{any, keep}
 use Rattle.clauses.specs.Listing.{mem, within, sameSet, tautology, present, literals, clauseSets, Fits, fits}
-use Rattle.clauses.proofs.Lists.{and-both, both-and, or-cases, or-left, or-right, not-is, is-not, in-first, any-has, has-any, all-have, have-all}
-use Rattle.clauses.proofs.Distinct.{Distinct, empty, more}
+use Rattle.clauses.proofs.Lists.{and-both, both-and, or-cases, or-left, or-right, not-is, is-not, not-eqb, eqb-not, in-first, any-has, has-any, all-have, have-all, keep-has, has-keep, keep-length, keep-all}
+use Rattle.clauses.proofs.Distinct.{Distinct, empty, more, keep-distinct}
 
 -- Tests
 
@@ -85,35 +88,37 @@ present-proper h t = h .proper (record { lit = t .lit; plain = h .same .left (t 
 
 -- Each literal once
 
-cons-within : (x : ℕ) (c d : List ℕ) → Within c d → Within (x ∷ c) (x ∷ d)
-cons-within x c d h y (List·Memᴰ·head e) = List·Memᴰ·head e
-cons-within x c d h y (List·Memᴰ·tail k) = List·Memᴰ·tail (h y k)
-
 pub literals-same : (c : List ℕ) → Same (literals c) c
 unfolding literals
 literals-same [] = same-refl []
-literals-same (x ∷ c) = go (mem x c) refl (literals-same c)
+literals-same (x ∷ c) = let s = literals-same c in record { left = left s; right = λ y m. right s y m (ℕ-discrete y x) }
   where
-    short : (d e : List ℕ) → Mem x d → Within e d → Within (x ∷ e) d
-    short d e m h y (List·Memᴰ·head q) = Memᴰ·cast q m
-    short d e m h y (List·Memᴰ·tail k) = h y k
+    left : Same (literals c) c → Within (x ∷ keep (λ y. not (eqb x y)) (literals c)) (x ∷ c)
+    left s y (List·Memᴰ·head e) = List·Memᴰ·head e
+    left s y (List·Memᴰ·tail m) = List·Memᴰ·tail (s .left y (keep-has (λ z. not (eqb x z)) (literals c) y m .0))
 
-    go : (b : Bool) → mem x c ≡ b → Same (literals c) c → Same (literals (x ∷ c)) (x ∷ c)
-    go true e ih =
-        rw (e, literals)
-        (record { left = λ y k. List·Memᴰ·tail (ih .left y k); right = short (literals c) c (ih .right x (mem-in x c e)) (ih .right) })
-    go false e ih =
-        rw (e, literals)
-        (record { left = cons-within x (literals c) c (ih .left); right = cons-within x c (literals c) (ih .right) })
+    right : Same (literals c) c → (y : ℕ) → Mem y (x ∷ c) → Dec (y ≡ x) → Mem y (x ∷ keep (λ z. not (eqb x z)) (literals c))
+    right s y m (yes e) = List·Memᴰ·head e
+    right s y (List·Memᴰ·head e) (no n) = absurd (n e)
+    right s y (List·Memᴰ·tail m) (no n) = List·Memᴰ·tail (has-keep (λ z. not (eqb x z)) (literals c) (s .right y m) (eqb-not x y (λ e. n (sym e))))
 
 pub literals-distinct : (c : List ℕ) → Distinct (literals c)
 unfolding literals
 literals-distinct [] = empty
-literals-distinct (x ∷ c) = go (mem x c) refl (literals-distinct c)
-  where
-    go : (b : Bool) → mem x c ≡ b → Distinct (literals c) → Distinct (literals (x ∷ c))
-    go true e ih = rw (e, literals) ih
-    go false e ih = rw (e, literals) (more (λ k. true≢false (sym (in-mem c (literals-same c .left x k)) ∙ e)) ih)
+literals-distinct (x ∷ c) =
+    more (λ m. not-eqb x x (keep-has (λ z. not (eqb x z)) (literals c) x m .1) refl) (keep-distinct (λ z. not (eqb x z)) (literals c) (literals-distinct c))
+
+pub literals-length : (c : List ℕ) → length (literals c) ≤ length c
+unfolding literals
+literals-length [] = omega arith
+literals-length (x ∷ c) = omega (arith, keep-length (λ y. not (eqb x y)) (literals c), literals-length c)
+
+-- nothing is left out where no literal is repeated
+pub literals-once : {c : List ℕ} → Distinct c → literals c ≡ c
+unfolding literals
+literals-once empty = refl
+literals-once (more {x = x} {xs = xs} n d) =
+    ap (λ (l : List ℕ). x ∷ l) (ap (keep (λ y. not (eqb x y))) (literals-once d) ∙ keep-all (λ y. not (eqb x y)) xs (λ y m. eqb-not x y (λ e. n (Memᴰ·cast e m))))
 
 -- Each clause once
 

@@ -1,12 +1,15 @@
 -- Laws of tests that are checked in order.
 -- Assumes nothing.
 use mathlib.Core.Path.{_≡_, refl}
-use mathlib.Core.Bool.{true, false}
+use mathlib.Core.Bool.{Bool, true, false, not, _||_, false≢true}
 use mathlib.Core.List.{List, [], _∷_, _++_, List·Memᴰ, List·Memᴰ·tail}
+use Prim.Native.Nat.{ℕ}
 use borrow.Table.Steps.{cases}
-use Rattle.clauses.specs.Refusal.{Test, decide}
+use Rattle.clauses.specs.Lists.{all}
+use Rattle.clauses.specs.Listing.{mem}
+use Rattle.clauses.specs.Refusal.{numberOf, Test, decide}
 use Rattle.clauses.specs.declared.refusal.Refusal.{Refusal}
-use Rattle.clauses.proofs.Lists.{in-first}
+use Rattle.clauses.proofs.Lists.{in-first, all-have}
 
 -- no test holds
 abbrev pub NoneHolds : List Test → Type 0
@@ -43,10 +46,25 @@ module _ {A : Type 0} (refused : Refusal → A) (accepted : A) where
   decide-either P r a (t ∷ ts) =
       cases (t .holds) (λ e. rw e (r (t .refusal))) (λ e. rw e (decide-either P r a ts))
 
-  -- a property of every test's refusal and, where no test holds, of the rest is one of the outcome
-  pub decide-has : (P : A → Type 0) (ts : List Test) → ((t : Test) → List·Memᴰ t ts → P (refused (t .refusal))) → (NoneHolds ts → P accepted)
+  -- a property of the refusal of every test that holds and, where none holds, of the rest is one of the outcome
+  pub decide-has : (P : A → Type 0) (ts : List Test) → ((t : Test) → List·Memᴰ t ts → t .holds ≡ true → P (refused (t .refusal))) → (NoneHolds ts → P accepted)
       → P (decide refused accepted ts)
   unfolding decide
   decide-has P [] f g = g tt
   decide-has P (t ∷ ts) f g =
-      cases (t .holds) (λ e. rw e (f t in-first)) (λ e. rw e (decide-has P ts (λ u k. f u (List·Memᴰ·tail k)) (λ n. g (e, n))))
+      cases (t .holds) (λ e. rw e (f t in-first e)) (λ e. rw e (decide-has P ts (λ u k h. f u (List·Memᴰ·tail k) h) (λ n. g (e, n))))
+
+-- a test has one of these numbers, or does not hold
+unfoldable pub isAmong : List ℕ → Test → Bool
+isAmong ns t = mem (numberOf (t .refusal)) ns || not (t .holds)
+
+among-number : (ns : List ℕ) (t : Test) → isAmong ns t ≡ true → t .holds ≡ true → mem (numberOf (t .refusal)) ns ≡ true
+unfolding isAmong
+among-number ns t a h = cases (mem (numberOf (t .refusal)) ns) (λ e. e) (λ e. absurd (false≢true (rw (e, h) at a)))
+
+module _ {A : Type 0} (refused : Refusal → A) (accepted : A) where
+  -- tests of which none but those with these numbers can hold: a property of every refusal with one of the numbers and, where no test holds, of the rest is one
+  -- of the outcome
+  pub decide-among : (P : A → Type 0) (ns : List ℕ) → ((r : Refusal) → mem (numberOf r) ns ≡ true → P (refused r)) → (ts : List Test) → all (isAmong ns) ts ≡ true
+      → (NoneHolds ts → P accepted) → P (decide refused accepted ts)
+  decide-among P ns p ts a g = decide-has refused accepted P ts (λ t k h. p (t .refusal) (among-number ns t (all-have (isAmong ns) ts a t k) h)) g

@@ -37,23 +37,23 @@ digits-length (suc k) n = more (ltb n 10) (digits-length k (n / 10))
     more true h = omega arith
     more false h = simp length-append (omega arith)
 
-pub decimal-length : (n : ℕ) → length (decimal n) ≤ 10
+pub decimal-length : (n : ℕ) → length (decimal n) ≤ 20
 unfolding decimal
-decimal-length n = digits-length 9 n
+decimal-length n = digits-length 19 n
 
 pub decimal-digit : (n : ℕ) → n < 10 → decimal n ≡ (nought + n % 10) ∷ []
 unfolding decimal digits
 decimal-digit n h = rw (lt-ltb n 10 h)
 
-pub decimal-more : (n : ℕ) → 10 ≤ n → n < 4294967296 → decimal n ≡ decimal (n / 10) ++ ((nought + n % 10) ∷ [])
+pub decimal-more : (n : ℕ) → 10 ≤ n → n < 18446744073709551616 → decimal n ≡ decimal (n / 10) ++ ((nought + n % 10) ∷ [])
 unfolding decimal digits power
 decimal-more n h k =
-    let rest : n / 10 < power 8 = omega arith in
-    rw (le-ltb n 10 h) (ap (λ (ds : List ℕ). ds ++ last n) (sym (digits-suffice 8 (n / 10) rest)))
+    let rest : n / 10 < power 18 = omega arith in
+    rw (le-ltb n 10 h) (ap (λ (ds : List ℕ). ds ++ last n) (sym (digits-suffice 18 (n / 10) rest)))
 
 -- the same of the number of digits
 pub length-digit : (n : ℕ) → n < 10 → length (decimal n) ≡ 1
 length-digit n h = rw (decimal-digit n h)
 
-pub length-more : (n : ℕ) → 10 ≤ n → n < 4294967296 → length (decimal n) ≡ length (decimal (n / 10)) + 1
+pub length-more : (n : ℕ) → 10 ≤ n → n < 18446744073709551616 → length (decimal n) ≡ length (decimal (n / 10)) + 1
 length-more n h k = rw (decimal-more n h k) (length-append (decimal (n / 10)) (last n))

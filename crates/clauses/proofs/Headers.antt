@@ -17,8 +17,8 @@ use Rattle.clauses.specs.Bytes.{letter-c, isBlank, isGap, isDigit, every
 use Rattle.clauses.specs.Number.{unsigned}
 use Rattle.clauses.specs.Reading.{isComment, isPassed, after, afterGap}
 use Rattle.clauses.specs.Scanning.{digitsAt, Reaches}
-use Rattle.clauses.specs.declared.header.Step.{Step}
-use Rattle.clauses.specs.declared.header.Step.the-variants as S
+use Rattle.clauses.specs.declared.header.PartEnd.{PartEnd}
+use Rattle.clauses.specs.declared.header.PartEnd.the-variants as S
 use Rattle.clauses.specs.declared.number.Unsigned.the-variants as U
 use Rattle.clauses.proofs.Runs.{run-within}
 use Rattle.clauses.proofs.Words.{read-value, no-unsigned, unsigned-empty}
@@ -125,7 +125,7 @@ blanks-passed line h = rw (ne-eqb _ _ h, every-run isBlank line)
 
 -- What a step tells
 
-module _ (line : List ℕ) (rest : Option (List ℕ)) {r : Step} (h : Reaches line rest r) where
+module _ (line : List ℕ) (rest : Option (List ℕ)) {r : PartEnd} (h : Reaches line rest r) where
   pub step-missing : r ≡ S.Missing → rest ≡ none
   step-missing e = rw e at h
 

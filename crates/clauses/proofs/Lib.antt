@@ -8,6 +8,9 @@ pub mod Picks
 pub mod Choices
 pub mod Renaming
 pub mod Extended
+-- A walk along a literal row
+pub mod Walks
+pub mod LentWalk
 -- Tests in their order, and the tally that decides them
 pub mod Deciding
 pub mod Signed
@@ -25,6 +28,8 @@ pub mod Headers
 pub mod Bodies
 pub mod Scans
 pub mod ReadingTests
+pub mod WordCounts
+pub mod ReadingRefusals
 -- Printing
 pub mod Decimals
 pub mod Writes
@@ -35,3 +40,6 @@ pub mod Numerals
 pub mod PrintedText
 pub mod RoundTrip
 pub mod Answers
+-- The tests' numbers, and a refusal's text
+pub mod Numbered
+pub mod RefusalTexts

@@ -4,7 +4,7 @@
 use mathlib.Core.Path.{_≡_, refl, sym, _∙_, ap, ap₂, subst, subst⁻¹}
 use mathlib.Core.Logic.{_≢_, _⊎_, inl, inr}
 use mathlib.Core.Bool.{Bool, true, false, cond, not, _&&_, _||_, false≢true}
-use mathlib.Core.List.{List, [], _∷_, map, List·Memᴰ, List·Memᴰ·head, List·Memᴰ·tail, List·Memᴰ·append-cases, Memᴰ·append-left, Memᴰ·append-right, List·Memᴰ·eq-of-singleton}
+use mathlib.Core.List.{List, [], _∷_, _++_, map, List·Memᴰ, List·Memᴰ·head, List·Memᴰ·tail, List·Memᴰ·append-cases, Memᴰ·append-left, Memᴰ·append-right, List·Memᴰ·eq-of-singleton}
 use Prim.Native.Nat.{ℕ, zero, suc, _+_, _≤_, _<_}
 use native.Mathlib.Omega.{arith}
 use native.Mathlib.Decide.{ℕ-discrete}
@@ -160,6 +160,16 @@ keep-length f [] = omega arith
 keep-length f (x ∷ l) =
     let ih : length (keep f l) ≤ length l = keep-length f l in
     cases (f x) (λ t. rw (keep-yes f x l t) (omega arith)) (λ t. rw (keep-no f x l t) (omega arith))
+
+pub keep-all : {A : Type 0} (f : A → Bool) (l : List A) → ((x : A) → List·Memᴰ x l → f x ≡ true) → keep f l ≡ l
+unfolding keep
+keep-all f [] h = refl
+keep-all f (x ∷ l) h = keep-yes f x l (h x in-first) ∙ ap (λ (k : List _). x ∷ k) (keep-all f l (λ y m. h y (List·Memᴰ·tail m)))
+
+pub keep-append : {A : Type 0} (f : A → Bool) (a c : List A) → keep f (a ++ c) ≡ keep f a ++ keep f c
+unfolding keep
+keep-append f [] c = refl
+keep-append f (x ∷ a) c = cases (f x) (λ t. rw (t, keep) (ap (λ (d : List _). x ∷ d) (keep-append f a c))) (λ t. rw (t, keep) (keep-append f a c))
 
 pub keep-none : {A : Type 0} (f : A → Bool) (l : List A) → ((x : A) → List·Memᴰ x l → f x ≡ false) → keep f l ≡ []
 unfolding keep

@@ -30,7 +30,7 @@ digit-is d h = and-eq-true-iff (leb nought (nought + d)) (leb (nought + d) 57) .
 pub record Numeral (n : ℕ) (w : List ℕ) : Type 0 where
   pub figures : every isDigit w ≡ true
   pub some-figure : 1 ≤ length w
-  few-figures : (m : ℕ) → n < 10 ^ suc m → length w ≤ suc m
+  pub few-figures : (m : ℕ) → n < 10 ^ suc m → length w ≤ suc m
   pub worth : value 0 w ≡ n
   no-leading-zero : 1 ≤ n → getD w 0 0 ≡ nought → ⊥
 
@@ -67,9 +67,9 @@ digits-numeral (suc k) n h =
     cases (ltb n 10) (λ t. rw t (one-figure n (ltb-true n 10 t)))
     (λ t. rw t (more-figures n (digits k (n / 10)) (ltb-false n 10 t) (digits-numeral k (n / 10) (omega (arith, pow-suc 10 (suc k))))))
 
-pub decimal-numeral : (n : ℕ) → n < 10 ^ 10 → Numeral n (decimal n)
+pub decimal-numeral : (n : ℕ) → n < 10 ^ 20 → Numeral n (decimal n)
 unfolding decimal
-decimal-numeral n h = digits-numeral 9 n h
+decimal-numeral n h = digits-numeral 19 n h
 
 numeral-positive : (n : ℕ) (w : List ℕ) → Numeral n w → 1 ≤ n → n < 10 ^ 9 → isPositive w ≡ true
 unfolding isPositive

@@ -12,7 +12,7 @@ use Rattle.clauses.specs.Refusal.{decide, bufferTooShort}
 use Rattle.clauses.specs.Tally.{tallyOf}
 use Rattle.clauses.specs.Check.{checkSizes, checkEntries}
 use Rattle.clauses.specs.Writing.{Wrote}
-use Rattle.clauses.specs.Printing.{Outcome, listText, printing, refused, written}
+use Rattle.clauses.specs.Printing.{Outcome, listText, printingTests, printing, refused, written}
 use Rattle.clauses.specs.declared.refusal.Refusal.{Refusal}
 use Rattle.clauses.specs.declared.refusal.Refusal.the-variants.{BufferTooShort}
 use Rattle.clauses.specs.declared.printing.Printing.{Printing}
@@ -40,19 +40,19 @@ module _ (v c : ℕ) (row : List ℤ) (buffer : List ℕ) where
   done = written buffer text
 
   pub print-sizes : (r : Refusal) → checkSizes v c (length row) ≡ check.Refused r → Answer outcome (Refused r) buffer
-  unfolding printing
+  unfolding printing printingTests
   print-sizes r h = refusal outcome buffer r (sizes-refused (refused buffer) done v c row _ r h)
 
   module _ (sizes : checkSizes v c (length row) ≡ check.Passed) where
     pub print-entries : (r : Refusal) → checkEntries c (tallyOf v row) ≡ check.Refused r → Answer outcome (Refused r) buffer
-    unfolding printing
+    unfolding printing printingTests
     print-entries r h =
         refusal outcome buffer r
         (sizes-passed (refused buffer) done v c row _ sizes ∙ entries-refused (refused buffer) done v c row _ r h)
 
     module _ (entries : checkEntries c (tallyOf v row) ≡ check.Passed) where
       last-test : outcome ≡ decide (refused buffer) done (bufferTooShort (length buffer) text ∷ [])
-      unfolding printing
+      unfolding printing printingTests
       last-test = sizes-passed (refused buffer) done v c row _ sizes ∙ entries-passed (refused buffer) done v c row _ entries
 
       pub print-short : length buffer < length text → Answer outcome (Refused BufferTooShort) buffer

@@ -1,7 +1,7 @@
 -- The tests of reading: of a body by the tally of its numbers, and of a text by its header.
 -- Assumes nothing.
 use mathlib.Core.Path.{_≡_, refl, sym, _∙_, ap}
-use mathlib.Core.List.{List, [], _∷_, map}
+use mathlib.Core.List.{List, [], _∷_, _++_, map}
 use mathlib.Core.Option.{Option, none, some}
 use Prim.Native.Nat.{ℕ, _≤_, _<_}
 use native.Mathlib.Omega.{arith}
@@ -11,15 +11,15 @@ use lib.ListN.{length}
 use Rattle.clauses.specs.Bytes.{Stretch}
 use Rattle.clauses.specs.Limit.{maxText}
 use Rattle.clauses.specs.Number.{number}
-use Rattle.clauses.specs.Refusal.{decide, tooManyNets, tooManyClauses, tooManyEntries, entryTooLarge, notEnded, clauseCount}
+use Rattle.clauses.specs.Refusal.{decide, sizeTests, entryTests}
 use Rattle.clauses.specs.Tally.{start, step, tallied, tallyOf}
 use Rattle.clauses.specs.Check.{checkSizes, checkEntries}
-use Rattle.clauses.specs.Reading.{Sizes, Body, prepend, body, Outcome, refused, accepted, readNumbers, readBody, readHeading, reading}
-use Rattle.clauses.specs.Scanning.{wordsFrom, Found, scanned, numbersOf}
+use Rattle.clauses.specs.Reading.{Sizes, sized, malformed, wordsOf, Body, prepend, body, Outcome, refused, accepted, isMalformed, malformedAt, hasBadWord, badWordAt, sizesOf, bodyOf, entriesOf, headingOf, numbersTests, bodyTests, readingTests, reading}
+use Rattle.clauses.specs.Scanning.{wordsFrom, HeaderFound, scanned, numbersOf, readBody, readNumbers}
 use Rattle.clauses.specs.declared.refusal.Refusal.{Refusal}
 use Rattle.clauses.specs.declared.refusal.Refusal.the-variants.{TextTooLong, Header, Word, RowTooShort}
 use Rattle.clauses.specs.declared.header.Header.the-variants as H
-use Rattle.clauses.specs.declared.tally.Tally.{Tally}
+use Rattle.clauses.specs.declared.tally.EntryTally.{EntryTally}
 use Rattle.clauses.specs.declared.checks.Check.the-variants as K
 use Rattle.clauses.specs.declared.body.Scan.{Scan}
 use Rattle.clauses.specs.declared.body.Scan.the-variants as C
@@ -28,16 +28,16 @@ use Rattle.clauses.proofs.Tallies.{tally-all}
 use Rattle.clauses.proofs.Tests.{sizes-passed, sizes-refused, entries-passed, entries-refused}
 
 -- what the scan of a body gives
-scanOf : ℕ → Tally → Body → Scan
+scanOf : ℕ → EntryTally → Body → Scan
 scanOf v t (Body.entries numbers) = C.Numbers (tallied v t (map natAbs numbers))
-scanOf v t (Body.malformed p) = C.Malformed p
+scanOf v t (Body.malformed p) = C.Refused (Word p)
 
-scan-prepend : (v : ℕ) (t : Tally) (z : ℤ) (b : Body) → scanOf v (step v t (natAbs z)) b ≡ scanOf v t (prepend z b)
+scan-prepend : (v : ℕ) (t : EntryTally) (z : ℤ) (b : Body) → scanOf v (step v t (natAbs z)) b ≡ scanOf v t (prepend z b)
 unfolding scanOf prepend tallied
 scan-prepend v t z (Body.entries numbers) = refl
 scan-prepend v t z (Body.malformed p) = refl
 
-scanned-body : (v : ℕ) (t : Tally) (ws : List Stretch) → scanned v t ws ≡ scanOf v t (body ws)
+scanned-body : (v : ℕ) (t : EntryTally) (ws : List Stretch) → scanned v t ws ≡ scanOf v t (body ws)
 unfolding scanned body scanOf tallied
 scanned-body v t [] = refl
 scanned-body v t (w ∷ ws) = go (number (w .bytes)) refl (λ z. scanned-body v (step v t (natAbs z)) ws)
@@ -47,7 +47,7 @@ scanned-body v t (w ∷ ws) = go (number (w .bytes)) refl (λ z. scanned-body v 
     go (some z) e ih = rw (scanned, body, e) (ih z ∙ scan-prepend v t z (body ws))
 
 -- the numbers of a body that is not malformed
-body-entries : (ws : List Stretch) (numbers : List ℤ) → body ws ≡ Body.entries numbers → numbersOf ws ≡ numbers
+pub body-entries : (ws : List Stretch) (numbers : List ℤ) → body ws ≡ Body.entries numbers → numbersOf ws ≡ numbers
 unfolding body numbersOf prepend
 body-entries [] numbers h = cc
 body-entries (w ∷ ws) numbers h = go (number (w .bytes)) refl (body ws) refl (body-entries ws)
@@ -58,15 +58,15 @@ body-entries (w ∷ ws) numbers h = go (number (w .bytes)) refl (body ws) refl (
     go (some z) e (Body.malformed p) k ih = let f = rw (body, e, k) at h in let q : _≡_ {A = ℕ} 0 1 = cc in absurd (omega arith)
 
 module _ (v : ℕ) (ws : List Stretch) where
-  pub scanned-malformed : (p : ℕ) → scanned v start ws ≡ C.Malformed p → body ws ≡ Body.malformed p
+  scanned-refused : (r : Refusal) → scanned v start ws ≡ C.Refused r → (p : ℕ) × (r ≡ Word p) × (body ws ≡ Body.malformed p)
   unfolding scanOf
-  scanned-malformed p e = go (body ws) (sym (scanned-body v start ws) ∙ e)
+  scanned-refused r e = go (body ws) (sym (scanned-body v start ws) ∙ e)
     where
-      go : (b : Body) → scanOf v start b ≡ C.Malformed p → b ≡ Body.malformed p
+      go : (b : Body) → scanOf v start b ≡ C.Refused r → (p : ℕ) × (r ≡ Word p) × (b ≡ Body.malformed p)
       go (Body.entries numbers) h = let z : _≡_ {A = ℕ} 0 1 = cc in absurd (omega arith)
-      go (Body.malformed q) h = let same : q ≡ p = cc in ap Body.malformed same
+      go (Body.malformed q) h = let same : Word q ≡ r = cc in (q, sym same, refl)
 
-  pub scanned-numbers : (t : Tally) → scanned v start ws ≡ C.Numbers t → (body ws ≡ Body.entries (numbersOf ws)) × (t ≡ tallyOf v (numbersOf ws))
+  pub scanned-numbers : (t : EntryTally) → scanned v start ws ≡ C.Numbers t → (body ws ≡ Body.entries (numbersOf ws)) × (t ≡ tallyOf v (numbersOf ws))
   unfolding scanOf
   scanned-numbers t e = go (body ws) refl (sym (scanned-body v start ws) ∙ e)
     where
@@ -76,22 +76,22 @@ module _ (v : ℕ) (ws : List Stretch) where
 
 module _ (row : List ℤ) (s : Sizes) (numbers : List ℤ) where
   pub numbers-short : length row < length numbers → readNumbers row s numbers ≡ refused row RowTooShort
-  unfolding readNumbers decide
+  unfolding readNumbers numbersTests decide
   numbers-short h = rw (lt-ltb _ _ h)
 
   module _ (h : length numbers ≤ length row) where
-    behind-room : readNumbers row s numbers
+    pub behind-room : readNumbers row s numbers
         ≡ decide (refused row) (accepted row s numbers)
-        (tooManyNets (s .nets) ∷ tooManyClauses (s .clauses) ∷ tooManyEntries numbers ∷ entryTooLarge (s .nets) numbers ∷ notEnded numbers ∷ clauseCount (s .clauses) numbers ∷ [])
-    unfolding readNumbers decide
+        (sizeTests (s .nets) (s .clauses) numbers ++ entryTests (s .nets) (s .clauses) numbers)
+    unfolding readNumbers numbersTests decide
     behind-room = rw (le-ltb _ _ h)
 
     pub numbers-sizes : (r : Refusal) → checkSizes (s .nets) (s .clauses) (length numbers) ≡ K.Refused r → readNumbers row s numbers ≡ refused row r
-    numbers-sizes r e = behind-room ∙ sizes-refused (refused row) (accepted row s numbers) (s .nets) (s .clauses) numbers (entryTooLarge (s .nets) numbers ∷ notEnded numbers ∷ clauseCount (s .clauses) numbers ∷ []) r e
+    numbers-sizes r e = behind-room ∙ sizes-refused (refused row) (accepted row s numbers) (s .nets) (s .clauses) numbers (entryTests (s .nets) (s .clauses) numbers) r e
 
     module _ (e : checkSizes (s .nets) (s .clauses) (length numbers) ≡ K.Passed) where
-      behind-sizes : readNumbers row s numbers ≡ decide (refused row) (accepted row s numbers) (entryTooLarge (s .nets) numbers ∷ notEnded numbers ∷ clauseCount (s .clauses) numbers ∷ [])
-      behind-sizes = behind-room ∙ sizes-passed (refused row) (accepted row s numbers) (s .nets) (s .clauses) numbers (entryTooLarge (s .nets) numbers ∷ notEnded numbers ∷ clauseCount (s .clauses) numbers ∷ []) e
+      behind-sizes : readNumbers row s numbers ≡ decide (refused row) (accepted row s numbers) (entryTests (s .nets) (s .clauses) numbers)
+      behind-sizes = behind-room ∙ sizes-passed (refused row) (accepted row s numbers) (s .nets) (s .clauses) numbers (entryTests (s .nets) (s .clauses) numbers) e
 
       pub numbers-entries : (r : Refusal) → checkEntries (s .clauses) (tallyOf (s .nets) numbers) ≡ K.Refused r → readNumbers row s numbers ≡ refused row r
       numbers-entries r k = behind-sizes ∙ entries-refused (refused row) (accepted row s numbers) (s .nets) (s .clauses) numbers [] r k
@@ -105,25 +105,32 @@ pub refused-is : {o : Outcome} (row : List ℤ) (r : Refusal) → o ≡ refused 
 unfolding refused
 refused-is row r e = (sym (ap (λ (o : Outcome). o .result) e), sym (ap (λ (o : Outcome). o .row) e))
 
-module _ (row : List ℤ) (s : Sizes) (b : Body) where
-  pub body-malformed : (p : ℕ) → b ≡ Body.malformed p → readBody row s b ≡ refused row (Word p)
-  unfolding readBody
-  body-malformed p e = rw e
+module _ (row : List ℤ) (s : Sizes) where
+  pub body-malformed : (b : Body) (p : ℕ) → b ≡ Body.malformed p → readBody row s b ≡ refused row (Word p)
+  unfolding readBody bodyTests hasBadWord badWordAt decide
+  body-malformed b p e = rw e
 
-  pub body-numbers : (numbers : List ℤ) → b ≡ Body.entries numbers → readBody row s b ≡ readNumbers row s numbers
-  unfolding readBody
-  body-numbers numbers e = rw e
+  -- a scan that is refused refuses the body
+  pub body-refused : (v : ℕ) (ws : List Stretch) (r : Refusal) → scanned v start ws ≡ C.Refused r → readBody row s (body ws) ≡ refused row r
+  body-refused v ws r e = let word = scanned-refused v ws r e in rw (word .1) (body-malformed (body ws) (word .0) (word .2))
+
+  pub body-numbers : (b : Body) (numbers : List ℤ) → b ≡ Body.entries numbers → readBody row s b ≡ readNumbers row s numbers
+  unfolding readBody readNumbers bodyTests hasBadWord entriesOf decide
+  body-numbers b numbers e = rw e
 
 module _ (text : List ℕ) (row : List ℤ) where
   pub text-long : maxText < length text → reading text row ≡ refused row TextTooLong
-  unfolding reading decide
+  unfolding reading readingTests decide
   text-long h = rw (lt-ltb _ _ h)
 
   module _ (h : length text ≤ maxText) where
-    pub header-malformed : (p : ℕ) → Found text (H.Malformed p) → reading text row ≡ refused row (Header p)
-    unfolding reading readHeading decide
-    header-malformed p e = rw (le-ltb _ _ h, e)
+    pub heading-malformed : (p : ℕ) → headingOf text ≡ malformed p → reading text row ≡ refused row (Header p)
+    unfolding reading readingTests isMalformed malformedAt decide
+    heading-malformed p e = rw (le-ltb _ _ h, e)
 
-    pub header-sized : (v c q : ℕ) → Found text (H.Sized v c q) → reading text row ≡ readBody row (record { nets = v; clauses = c }) (body (wordsFrom text q))
-    unfolding reading readHeading decide
-    header-sized v c q f = rw (le-ltb _ _ h, f .1, f .2)
+    pub heading-sized : (s : Sizes) (ls : List Stretch) → headingOf text ≡ sized s ls → reading text row ≡ readBody row s (body (wordsOf ls))
+    unfolding reading readBody readingTests isMalformed sizesOf bodyOf decide
+    heading-sized s ls e = rw (le-ltb _ _ h, e)
+
+    pub header-sized : (v c q : ℕ) → HeaderFound text (H.Sized v c q) → reading text row ≡ readBody row (record { nets = v; clauses = c }) (body (wordsFrom text q))
+    header-sized v c q f = heading-sized _ (f .0) (f .1) ∙ rw (f .2)

@@ -16,7 +16,8 @@ use Rattle.clauses.specs.Number.{signed}
 use Rattle.clauses.specs.Reading.{isComment}
 use Rattle.clauses.specs.Tally.{start, step}
 use Rattle.clauses.specs.Scanning.{isInWord, numberAt, startsLine, wordsFrom, StartsWord, NextWord, scanned, numbersOf, numbersFrom, Keeps}
-use Rattle.clauses.specs.declared.tally.Tally.{Tally}
+use Rattle.clauses.specs.declared.refusal.Refusal.the-variants.{Word}
+use Rattle.clauses.specs.declared.tally.EntryTally.{EntryTally}
 use Rattle.clauses.specs.declared.text.Cursor.{Cursor}
 use Rattle.clauses.specs.declared.number.Number.the-variants as N
 use Rattle.clauses.specs.declared.body.Scan.the-variants as C
@@ -47,7 +48,7 @@ words-end text p h = cases (startsLine text p) at-line in-line
     in-line t = inside-line text p t ∙ rw (drop-of-length-le text h) (wordsInLine-none p)
 
 -- the words from place at on decide what the tally comes to and what is kept; so far the tally counts at most one entry for each byte passed
-pub record Scanned (text : List ℕ) (v from : ℕ) (before kept : List ℤ) (t : Tally) (at : ℕ) : Type 0 where
+pub record Scanned (text : List ℕ) (v from : ℕ) (before kept : List ℤ) (t : EntryTally) (at : ℕ) : Type 0 where
   pub rest : scanned v start (wordsFrom text from) ≡ scanned v t (wordsFrom text at)
   pub kept-rest : sets before 0 (numbersFrom text from) ≡ sets kept (t .entries) (numbersFrom text at)
   pub size : length kept ≡ length before
@@ -69,7 +70,7 @@ module _ (text : List ℕ) (v from : ℕ) (before : List ℤ) where
         entries-few = omega arith;
       }
 
-  module _ (kept : List ℤ) (t : Tally) (at : ℕ) (s : Scanned text v from before kept t at) where
+  module _ (kept : List ℤ) (t : EntryTally) (at : ℕ) (s : Scanned text v from before kept t at) where
     pub scan-ends : length text ≤ at → (C.Numbers t ≡ scanned v start (wordsFrom text from)) × (kept ≡ sets before 0 (numbersFrom text from))
     unfolding scanned numbersOf
     scan-ends h = (sym (s .rest ∙ rw (words-end text at h)), sym (s .kept-rest ∙ rw (words-end text at h)))
@@ -78,7 +79,7 @@ module _ (text : List ℕ) (v from : ℕ) (before : List ℤ) where
       word : wordsFrom text at ≡ record { place = at; bytes = front isInWord (drop at text) } ∷ wordsFrom text (at + length (front isInWord (drop at text)))
       word = wordsFrom-word text at h (s .word-starts h)
 
-      pub scan-breaks : numberAt (drop at text) at ≡ N.Malformed → (C.Malformed at ≡ scanned v start (wordsFrom text from)) × (kept ≡ sets before 0 (numbersFrom text from))
+      pub scan-breaks : numberAt (drop at text) at ≡ N.Malformed → (C.Refused (Word at) ≡ scanned v start (wordsFrom text from)) × (kept ≡ sets before 0 (numbersFrom text from))
       unfolding scanned numbersOf
       scan-breaks e =
           let none-read = word-no-number (drop at text) at e in

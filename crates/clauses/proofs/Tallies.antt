@@ -13,7 +13,7 @@ use lib.Seq.{take-suc, take-all, length-take-le}
 use borrow.Author.Tests.{lt-ltb, le-ltb, leb-true, leb-false}
 use Rattle.clauses.specs.Refusal.{firstOver, zeros, isEnded}
 use Rattle.clauses.specs.Tally.{start, step, tallied, tallyOf}
-use Rattle.clauses.specs.declared.tally.Tally.{Tally}
+use Rattle.clauses.specs.declared.tally.EntryTally.{EntryTally}
 
 suc-cond : (b : Bool) (n : ℕ) → suc (cond b (n + 1) n) ≡ cond b (suc n + 1) (suc n)
 suc-cond true n = omega arith
@@ -64,7 +64,7 @@ module _ (v : ℕ) where
   unfolding tallied
   tally-append [] row = rw append-nil
   tally-append (z ∷ rest) row =
-      ap (λ (t : Tally). tallied v t (map natAbs rest)) (tally-snoc z v row)
+      ap (λ (t : EntryTally). tallied v t (map natAbs rest)) (tally-snoc z v row)
       ∙ tally-append rest (row ++ (z ∷ []))
       ∙ ap (tallyOf v) (append-assoc row (z ∷ []) rest)
 

@@ -10,7 +10,7 @@ use lib.IntN.{ℤ}
 use lib.ListN.{length}
 use borrow.Author.Tests.{ltb-false}
 use Rattle.clauses.specs.Limit.{maxNets, maxClauses, maxEntries}
-use Rattle.clauses.specs.Refusal.{Test, decide, tooManyNets, tooManyClauses, tooManyEntries, entryTooLarge, notEnded, clauseCount}
+use Rattle.clauses.specs.Refusal.{Test, decide, tooManyNets, tooManyClauses, sizeTests, entryTests}
 use Rattle.clauses.specs.Tally.{tallyOf}
 use Rattle.clauses.specs.Check.{checkSizes, checkEntries}
 use Rattle.clauses.specs.declared.refusal.Refusal.{Refusal}
@@ -45,29 +45,23 @@ module _ {A : Type 0} (refused : Refusal → A) where
       (decide-refused accepted ts r)
 
   module _ (accepted : A) (v c : ℕ) (row : List ℤ) (ts : List Test) where
-    sizes : List Test
-    sizes = tooManyNets v ∷ tooManyClauses c ∷ tooManyEntries row ∷ []
-
     -- tests 5 to 7 pass: the rest decides
-    pub sizes-passed : checkSizes v c (length row) ≡ Passed → decide refused accepted (tooManyNets v ∷ tooManyClauses c ∷ tooManyEntries row ∷ ts) ≡ decide refused accepted ts
-    unfolding checkSizes sizes
-    sizes-passed h = decide-append accepted sizes ts ∙ decide-passed (decide refused accepted ts) sizes h
+    pub sizes-passed : checkSizes v c (length row) ≡ Passed → decide refused accepted (sizeTests v c row ++ ts) ≡ decide refused accepted ts
+    unfolding checkSizes
+    sizes-passed h = decide-append accepted (sizeTests v c row) ts ∙ decide-passed (decide refused accepted ts) (sizeTests v c row) h
 
-    pub sizes-refused : (r : Refusal) → checkSizes v c (length row) ≡ Refused r → decide refused accepted (tooManyNets v ∷ tooManyClauses c ∷ tooManyEntries row ∷ ts) ≡ refused r
-    unfolding checkSizes sizes
-    sizes-refused r h = decide-append accepted sizes ts ∙ decide-refused (decide refused accepted ts) sizes r h
-
-    entries : List Test
-    entries = entryTooLarge v row ∷ notEnded row ∷ clauseCount c row ∷ []
+    pub sizes-refused : (r : Refusal) → checkSizes v c (length row) ≡ Refused r → decide refused accepted (sizeTests v c row ++ ts) ≡ refused r
+    unfolding checkSizes
+    sizes-refused r h = decide-append accepted (sizeTests v c row) ts ∙ decide-refused (decide refused accepted ts) (sizeTests v c row) r h
 
     -- tests 10 to 12 pass: the rest decides
-    pub entries-passed : checkEntries c (tallyOf v row) ≡ Passed → decide refused accepted (entryTooLarge v row ∷ notEnded row ∷ clauseCount c row ∷ ts) ≡ decide refused accepted ts
-    unfolding checkEntries tallyOf entries
-    entries-passed h = decide-append accepted entries ts ∙ decide-passed (decide refused accepted ts) entries h
+    pub entries-passed : checkEntries c (tallyOf v row) ≡ Passed → decide refused accepted (entryTests v c row ++ ts) ≡ decide refused accepted ts
+    unfolding checkEntries tallyOf
+    entries-passed h = decide-append accepted (entryTests v c row) ts ∙ decide-passed (decide refused accepted ts) (entryTests v c row) h
 
-    pub entries-refused : (r : Refusal) → checkEntries c (tallyOf v row) ≡ Refused r → decide refused accepted (entryTooLarge v row ∷ notEnded row ∷ clauseCount c row ∷ ts) ≡ refused r
-    unfolding checkEntries tallyOf entries
-    entries-refused r h = decide-append accepted entries ts ∙ decide-refused (decide refused accepted ts) entries r h
+    pub entries-refused : (r : Refusal) → checkEntries c (tallyOf v row) ≡ Refused r → decide refused accepted (entryTests v c row ++ ts) ≡ refused r
+    unfolding checkEntries tallyOf
+    entries-refused r h = decide-append accepted (entryTests v c row) ts ∙ decide-refused (decide refused accepted ts) (entryTests v c row) r h
 
 -- what tests 5 to 7 leave
 pub sizes-within : (v c entries : ℕ) → checkSizes v c entries ≡ Passed → (v ≤ maxNets) × (c ≤ maxClauses) × (entries ≤ maxEntries)

@@ -56,20 +56,20 @@ module _ (z : ℤ) (m : ℕ) (magnitude : m ≡ natAbs z) where
   pub entry-literal-length : (m ≡ 0 → ⊥) → length (entryText z) ≡ length (signedDecimal z) + 1
   entry-literal-length n = rw (entry-literal n) (length-append (signedDecimal z) (space ∷ []))
 
-pub number-length : (z : ℤ) → length (signedDecimal z) ≤ 11
+pub number-length : (z : ℤ) → length (signedDecimal z) ≤ 21
 unfolding signedDecimal
 number-length (pos n) = omega (arith, decimal-length n)
 number-length (negsuc n) = omega (arith, decimal-length (suc n))
 
-pub entry-length : (z : ℤ) → length (entryText z) ≤ 12
+pub entry-length : (z : ℤ) → length (entryText z) ≤ 22
 unfolding entryText
 entry-length z = more (eqb (natAbs z) 0)
   where
-    more : (b : Bool) → length (cond b (nought ∷ lf ∷ []) (signedDecimal z ++ (space ∷ []))) ≤ 12
+    more : (b : Bool) → length (cond b (nought ∷ lf ∷ []) (signedDecimal z ++ (space ∷ []))) ≤ 22
     more true = omega arith
     more false = simp length-append (omega (arith, number-length z))
 
-pub row-length : (row : List ℤ) → length (rowText row) ≤ 12 * length row
+pub row-length : (row : List ℤ) → length (rowText row) ≤ 22 * length row
 unfolding rowText
 row-length [] = omega arith
 row-length (z ∷ row) = simp length-append (omega (arith, entry-length z, row-length row))

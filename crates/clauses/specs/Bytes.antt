@@ -18,6 +18,9 @@ cr = 13
 abbrev pub space : ℕ
 space = 32
 
+abbrev pub comma : ℕ
+comma = 44
+
 abbrev pub minus : ℕ
 minus = 45
 

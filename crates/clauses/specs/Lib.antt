@@ -5,6 +5,7 @@ pub mod Lists
 pub mod Clause
 pub mod Listing
 pub mod Renaming
+pub mod Walk
 -- What is turned away
 pub mod Refusal
 pub mod Tally

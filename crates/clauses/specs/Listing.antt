@@ -6,7 +6,7 @@ use Prim.Native.Nat.{ℕ, _≤_}
 use lib.Dec.{eqb, leb}
 use Rattle.clauses.specs.Code.{negate, net}
 use Rattle.clauses.specs.Clause.{Mem}
-use Rattle.clauses.specs.Lists.{any, all}
+use Rattle.clauses.specs.Lists.{any, all, keep}
 
 -- whether Mem x c
 unfoldable pub mem : ℕ → List ℕ → Bool
@@ -28,10 +28,10 @@ tautology c = any (λ x. mem (negate x) c) c
 unfoldable pub present : List (List ℕ) → List ℕ → Bool
 present cs c = any (λ d. sameSet c d && not (tautology d)) cs
 
--- 'a repeated literal counts once'
+-- 'a repeated literal counts once': each where it first stands
 unfoldable pub literals : List ℕ → List ℕ
 literals [] = []
-literals (x ∷ c) = elim (mem x c) [ true ↦ literals c | false ↦ x ∷ literals c ]
+literals (x ∷ c) = x ∷ keep (λ y. not (eqb x y)) (literals c)
 
 -- 'a clause that holds a net and its inverse is ignored, and two clauses with equal sets are one'
 unfoldable pub clauseSets : List (List ℕ) → List (List ℕ)

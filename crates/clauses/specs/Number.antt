@@ -43,9 +43,13 @@ unfoldable pub digits : ℕ → ℕ → List ℕ
 digits zero n = (nought + n % 10) ∷ []
 digits (suc k) n = cond (ltb n 10) ((nought + n % 10) ∷ []) (digits k (n / 10) ++ ((nought + n % 10) ∷ []))
 
--- a 32-bit number in decimal: it has at most ten digits
+-- a 64-bit number in decimal: it has at most twenty digits
 unfoldable pub decimal : ℕ → List ℕ
-decimal n = digits 9 n
+decimal n = digits 19 n
+
+-- a number in decimal and the byte after it
+abbrev pub field : ℕ → ℕ → List ℕ
+field n end = decimal n ++ (end ∷ [])
 
 -- a signed number in decimal
 unfoldable pub signedDecimal : ℤ → List ℕ

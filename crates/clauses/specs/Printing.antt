@@ -8,7 +8,7 @@ use lib.IntN.{ℤ, natAbs}
 use lib.ListN.{length, drop}
 use Rattle.clauses.specs.Bytes.{space, lf, nought}
 use Rattle.clauses.specs.Number.{decimal, signedDecimal}
-use Rattle.clauses.specs.Refusal.{decide, tooManyNets, tooManyClauses, tooManyEntries, entryTooLarge, notEnded, clauseCount, bufferTooShort}
+use Rattle.clauses.specs.Refusal.{Test, decide, sizeTests, entryTests, bufferTooShort}
 use Rattle.clauses.specs.declared.refusal.Refusal.{Refusal}
 use Rattle.clauses.specs.declared.printing.Printing.{Printing}
 use Rattle.clauses.specs.declared.printing.Printing.the-variants.{Written, Refused}
@@ -41,9 +41,10 @@ refused buffer r = record { result = Refused r; buffer = buffer }
 unfoldable pub written : List ℕ → List ℕ → Outcome
 written buffer text = record { result = Written (length text); buffer = text ++ drop (length text) buffer }
 
--- 'Reading tests .., printing 5 to 7 and 10 to 13', of V, C, a literal row and a lent text buffer
+-- 'printing 5 to 7 and 10 to 13', of V, C, a literal row and a lent text buffer
+unfoldable pub printingTests : ℕ → ℕ → List ℤ → List ℕ → List Test
+printingTests v c row buffer =
+    sizeTests v c row ++ (entryTests v c row ++ (bufferTooShort (length buffer) (listText v c row) ∷ []))
+
 unfoldable pub printing : ℕ → ℕ → List ℤ → List ℕ → Outcome
-printing v c row buffer =
-    decide (refused buffer) (written buffer (listText v c row))
-    (tooManyNets v ∷ tooManyClauses c ∷ tooManyEntries row ∷ entryTooLarge v row ∷ notEnded row ∷ clauseCount c row
-    ∷ bufferTooShort (length buffer) (listText v c row) ∷ [])
+printing v c row buffer = decide (refused buffer) (written buffer (listText v c row)) (printingTests v c row buffer)

@@ -1,6 +1,6 @@
 -- What a DIMACS text reads as.
 -- Assumes nothing.
-use mathlib.Core.Bool.{Bool, cond, _||_}
+use mathlib.Core.Bool.{Bool, true, false, cond, _||_}
 use mathlib.Core.List.{List, [], _∷_, _++_}
 use mathlib.Core.Option.{Option, none, some}
 use Prim.Native.Nat.{ℕ}
@@ -9,7 +9,7 @@ use lib.IntN.{ℤ}
 use lib.ListN.{length, getD, drop}
 use Rattle.clauses.specs.Bytes.{lf, letter-c, isBlank, isGap, isDigit, every, front, behind, Stretch, split}
 use Rattle.clauses.specs.Number.{unsigned, number}
-use Rattle.clauses.specs.Refusal.{decide, textTooLong, rowTooShort, tooManyNets, tooManyClauses, tooManyEntries, entryTooLarge, notEnded, clauseCount}
+use Rattle.clauses.specs.Refusal.{Test, decide, textTooLong, rowTooShort, sizeTests, entryTests}
 use Rattle.clauses.specs.declared.refusal.Refusal.{Refusal}
 use Rattle.clauses.specs.declared.refusal.Refusal.the-variants.{Header, Word}
 use Rattle.clauses.specs.declared.reading.Reading.{Reading}
@@ -130,23 +130,63 @@ accepted row s numbers =
       row = numbers ++ drop (length numbers) row;
     }
 
--- tests 4 to 7 and 10 to 12, of the numbers of a body
-unfoldable pub readNumbers : List ℤ → Sizes → List ℤ → Outcome
-readNumbers row s numbers =
-    decide (refused row) (accepted row s numbers)
-    (rowTooShort (length row) numbers ∷ tooManyNets (s .nets) ∷ tooManyClauses (s .clauses) ∷ tooManyEntries numbers
-    ∷ entryTooLarge (s .nets) numbers ∷ notEnded numbers ∷ clauseCount (s .clauses) numbers ∷ [])
+-- whether the header is missing or malformed, and where
+unfoldable pub isMalformed : Heading → Bool
+isMalformed (sized s ls) = false
+isMalformed (malformed p) = true
 
--- test 3
-unfoldable pub readBody : List ℤ → Sizes → Body → Outcome
-readBody row s (malformed p) = refused row (Word p)
-readBody row s (entries numbers) = readNumbers row s numbers
+unfoldable pub malformedAt : Heading → ℕ
+malformedAt (sized s ls) = 0
+malformedAt (malformed p) = p
 
--- test 2
-unfoldable pub readHeading : List ℤ → Heading → Outcome
-readHeading row (malformed p) = refused row (Header p)
-readHeading row (sized s ls) = readBody row s (body (wordsOf ls))
+-- 2. 'The header line is missing or malformed (place: first byte of that line, or the text's length if there is none).'
+abbrev pub headerMalformed : Heading → Test
+headerMalformed h = record { holds = isMalformed h; refusal = Header (malformedAt h) }
+
+-- whether a word of the body is not a number, and the first byte of the first such word
+unfoldable pub hasBadWord : Body → Bool
+hasBadWord (entries numbers) = false
+hasBadWord (malformed p) = true
+
+unfoldable pub badWordAt : Body → ℕ
+badWordAt (entries numbers) = 0
+badWordAt (malformed p) = p
+
+-- 3. 'A word of the body is not a number as described; a word that is not a number ends the reading at its first byte, which is the place.'
+abbrev pub wordMalformed : Body → Test
+wordMalformed b = record { holds = hasBadWord b; refusal = Word (badWordAt b) }
+
+-- V and C, the body and its numbers, where no such test holds
+unfoldable pub sizesOf : Heading → Sizes
+sizesOf (sized s ls) = s
+sizesOf (malformed p) = record { nets = 0; clauses = 0 }
+
+unfoldable pub bodyOf : Heading → Body
+bodyOf (sized s ls) = body (wordsOf ls)
+bodyOf (malformed p) = entries []
+
+unfoldable pub entriesOf : Body → List ℤ
+entriesOf (entries numbers) = numbers
+entriesOf (malformed p) = []
+
+-- what is found of the header of a text
+abbrev pub headingOf : List ℕ → Heading
+headingOf text = heading (length text) (lines 0 text)
+
+-- tests 4 to 7 and 10 to 12, of V, C and the numbers of a body
+unfoldable pub numbersTests : List ℤ → Sizes → List ℤ → List Test
+numbersTests row s numbers =
+    rowTooShort (length row) numbers ∷ (sizeTests (s .nets) (s .clauses) numbers ++ entryTests (s .nets) (s .clauses) numbers)
+
+-- test 3 before them
+unfoldable pub bodyTests : List ℤ → Sizes → Body → List Test
+bodyTests row s b = wordMalformed b ∷ numbersTests row s (entriesOf b)
 
 -- 'Reading tests 1 to 7 and 10 to 12', of a text and a lent literal row
+unfoldable pub readingTests : List ℕ → List ℤ → List Test
+readingTests text row =
+    textTooLong text ∷ headerMalformed (headingOf text) ∷ bodyTests row (sizesOf (headingOf text)) (bodyOf (headingOf text))
+
 unfoldable pub reading : List ℕ → List ℤ → Outcome
-reading text row = decide (refused row) (readHeading row (heading (length text) (lines 0 text))) (textTooLong text ∷ [])
+reading text row =
+    decide (refused row) (accepted row (sizesOf (headingOf text)) (entriesOf (bodyOf (headingOf text)))) (readingTests text row)

@@ -1,11 +1,13 @@
 -- 'Turned away at the desk': the number and the place of each refusal, and the tests in document 01's order.
 -- Assumes nothing.
 use mathlib.Core.Bool.{Bool, true, cond, not, _||_}
-use mathlib.Core.List.{List, [], _∷_}
+use mathlib.Core.List.{List, [], _∷_, _++_, map}
 use Prim.Native.Nat.{ℕ, suc}
 use lib.Dec.{eqb, ltb}
 use lib.IntN.{ℤ, natAbs}
 use lib.ListN.{length}
+use Rattle.clauses.specs.Bytes.{comma, lf}
+use Rattle.clauses.specs.Number.{field}
 use Rattle.clauses.specs.Limit.{maxText, maxNets, maxClauses, maxEntries}
 use Rattle.clauses.specs.declared.refusal.Refusal.{Refusal}
 use Rattle.clauses.specs.declared.refusal.Refusal.the-variants.{TextTooLong, Header, Word, RowTooShort, TooManyNets, TooManyClauses, TooManyEntries, LeadsTooShort, WorkTooShort, EntryTooLarge, NotEnded, ClauseCount, BufferTooShort, TooManyRounds}
@@ -52,6 +54,10 @@ pub record Test : Type 0 where
 unfoldable pub decide : {A : Type 0} → (Refusal → A) → A → List Test → A
 decide refused accepted [] = accepted
 decide refused accepted (t ∷ ts) = cond (t .holds) (refused (t .refusal)) (decide refused accepted ts)
+
+-- the number and the place of what each test of a list gives
+unfoldable pub numbered : List Test → List (ℕ × ℕ)
+numbered ts = map (λ (t : Test). (numberOf (t .refusal), placeOf (t .refusal))) ts
 
 -- 1. 'The text is longer than 65,536 bytes.'
 abbrev pub textTooLong : List ℕ → Test
@@ -100,6 +106,22 @@ zeros (z ∷ row) = cond (eqb (natAbs z) 0) (suc (zeros row)) (zeros row)
 abbrev pub clauseCount : ℕ → List ℤ → Test
 clauseCount c row = record { holds = not (eqb (zeros row) c); refusal = ClauseCount }
 
+-- tests 5 to 7, of V, C and a literal row
+abbrev pub sizeTests : ℕ → ℕ → List ℤ → List Test
+sizeTests v c row = tooManyNets v ∷ tooManyClauses c ∷ tooManyEntries row ∷ []
+
+-- tests 10 to 12
+abbrev pub entryTests : ℕ → ℕ → List ℤ → List Test
+entryTests v c row = entryTooLarge v row ∷ notEnded row ∷ clauseCount c row ∷ []
+
 -- 13. 'The lent text buffer is shorter than the DIMACS text to print, .. or the DIMACS text would pass 65,536 bytes.'
 abbrev pub bufferTooShort : ℕ → List ℕ → Test
 bufferTooShort room text = record { holds = ltb room (length text) || ltb maxText (length text); refusal = BufferTooShort }
+
+-- the line `refusal,place`
+abbrev pub refusalNames : List ℕ
+refusalNames = 114 ∷ 101 ∷ 102 ∷ 117 ∷ 115 ∷ 97 ∷ 108 ∷ comma ∷ 112 ∷ 108 ∷ 97 ∷ 99 ∷ 101 ∷ lf ∷ []
+
+-- 'A refusal prints `refusal,place` and a line with the two numbers.'
+unfoldable pub refusalText : Refusal → List ℕ
+refusalText r = refusalNames ++ (field (numberOf r) comma ++ field (placeOf r) lf)

@@ -10,21 +10,23 @@ use lib.IntN.{ℤ, pos, negsuc, natAbs}
 use lib.ListN.{length, getD, take, drop}
 use Rattle.clauses.specs.Bytes.{lf, letter-c, isBlank, isGap, isDigit, front, Stretch}
 use Rattle.clauses.specs.Number.{unsigned, number}
-use Rattle.clauses.specs.Reading.{Sizes, sized, malformed, lines, heading, words, wordsOf}
+use Rattle.clauses.specs.Refusal.{decide}
+use Rattle.clauses.specs.Reading.{Sizes, sized, malformed, lines, words, wordsOf, Body, entriesOf, headingOf, Outcome, refused, accepted, numbersTests, bodyTests}
 use Rattle.clauses.specs.declared.text.Class.{Class}
 use Rattle.clauses.specs.declared.text.Class.the-variants.{Digit, Gap, Blank, Inline}
 use Rattle.clauses.specs.declared.number.Unsigned.{Unsigned}
 use Rattle.clauses.specs.declared.number.Unsigned.the-variants as U
 use Rattle.clauses.specs.declared.number.Number.{Number}
 use Rattle.clauses.specs.declared.number.Number.the-variants as N
-use Rattle.clauses.specs.declared.header.Step.{Step}
-use Rattle.clauses.specs.declared.header.Step.the-variants as S
+use Rattle.clauses.specs.declared.header.PartEnd.{PartEnd}
+use Rattle.clauses.specs.declared.header.PartEnd.the-variants as S
 use Rattle.clauses.specs.declared.header.HeaderLine.{HeaderLine}
 use Rattle.clauses.specs.declared.header.HeaderLine.the-variants as L
 use Rattle.clauses.specs.declared.header.Header.{Header}
 use Rattle.clauses.specs.declared.header.Header.the-variants as H
 use Rattle.clauses.specs.Tally.{start, step}
-use Rattle.clauses.specs.declared.tally.Tally.{Tally}
+use Rattle.clauses.specs.declared.refusal.Refusal.the-variants.{Word}
+use Rattle.clauses.specs.declared.tally.EntryTally.{EntryTally}
 use Rattle.clauses.specs.declared.body.Scan.{Scan}
 use Rattle.clauses.specs.declared.body.Scan.the-variants as C
 
@@ -67,7 +69,7 @@ unfoldable pub numberAt : List ℕ → ℕ → Number
 numberAt l p = numberEndingAt (p + length (front isInWord l)) (number (front isInWord l))
 
 -- a step in a line comes to what follows a part of it, or does not if that part is missing
-abbrev pub Reaches : List ℕ → Option (List ℕ) → Step → Type 0
+abbrev pub Reaches : List ℕ → Option (List ℕ) → PartEnd → Type 0
 Reaches line rest S.Missing = rest ≡ none
 Reaches line rest (S.At p) = (rest ≡ some (drop p line)) × (p ≤ length line)
 
@@ -91,10 +93,10 @@ unfoldable pub wordsFrom : List ℕ → ℕ → List Stretch
 wordsFrom text p = cond (startsLine text p) (wordsOf (lines p (drop p text))) (wordsWithin (lines p (drop p text)))
 
 -- what is found of the header: a body of the given words starts at place q, or the header is malformed
-abbrev pub Found : List ℕ → Header → Type 0
-Found text (H.Malformed p) = heading (length text) (lines 0 text) ≡ malformed p
-Found text (H.Sized v c q) =
-    (ls : List Stretch) × (heading (length text) (lines 0 text) ≡ sized (record { nets = v; clauses = c }) ls) × (wordsOf ls ≡ wordsFrom text q) × (q ≤ length text)
+abbrev pub HeaderFound : List ℕ → Header → Type 0
+HeaderFound text (H.Malformed p) = headingOf text ≡ malformed p
+HeaderFound text (H.Sized v c q) =
+    (ls : List Stretch) × (headingOf text ≡ sized (record { nets = v; clauses = c }) ls) × (wordsOf ls ≡ wordsFrom text q) × (q ≤ length text)
 
 -- a word starts at place p
 pub record StartsWord (text : List ℕ) (p : ℕ) : Type 0 where
@@ -108,10 +110,10 @@ pub record NextWord (text : List ℕ) (p r : ℕ) : Type 0 where
   pub within : r ≤ length text
   pub word-starts : r < length text → StartsWord text r
 
--- the tally after the numbers of more words, or the place of the first one that is not a number
-unfoldable pub scanned : ℕ → Tally → List Stretch → Scan
+-- the tally after the numbers of more words, or refusal 3 at the first one that is not a number
+unfoldable pub scanned : ℕ → EntryTally → List Stretch → Scan
 scanned v t [] = C.Numbers t
-scanned v t (w ∷ ws) = elim (number (w .bytes)) [ none ↦ C.Malformed (w .place) | some z ↦ scanned v (step v t (natAbs z)) ws ]
+scanned v t (w ∷ ws) = elim (number (w .bytes)) [ none ↦ C.Refused (Word (w .place)) | some z ↦ scanned v (step v t (natAbs z)) ws ]
 
 unfoldable pub scannedFrom : List ℕ → ℕ → ℕ → Scan
 scannedFrom text p v = scanned v start (wordsFrom text p)
@@ -128,3 +130,10 @@ numbersFrom text p = numbersOf (wordsFrom text p)
 -- a row holds numbers at its start, unless they are more than it has room for
 abbrev pub Keeps : List ℤ → List ℤ → Type 0
 Keeps row numbers = length numbers ≤ length row → take (length numbers) row ≡ numbers
+
+-- what reading comes to once the header is found, and once all words of the body are numbers
+unfoldable pub readBody : List ℤ → Sizes → Body → Outcome
+readBody row s b = decide (refused row) (accepted row s (entriesOf b)) (bodyTests row s b)
+
+unfoldable pub readNumbers : List ℤ → Sizes → List ℤ → Outcome
+readNumbers row s numbers = decide (refused row) (accepted row s numbers) (numbersTests row s numbers)

@@ -7,18 +7,18 @@ use lib.Dec.{eqb, leb}
 use lib.IntN.{ℤ}
 use lib.ListN.{length}
 use Rattle.clauses.specs.Refusal.{firstOver, isEnded, zeros}
-use Rattle.clauses.specs.declared.tally.Tally.{Tally}
+use Rattle.clauses.specs.declared.tally.EntryTally.{EntryTally}
 
 -- the tally of a row
-unfoldable pub tallyOf : ℕ → List ℤ → Tally
+unfoldable pub tallyOf : ℕ → List ℤ → EntryTally
 tallyOf v row = record { entries = length row; within = firstOver v row; zeros = zeros row; ended = isEnded row }
 
 -- the tally of no entry
-abbrev pub start : Tally
+abbrev pub start : EntryTally
 start = record { entries = 0; within = 0; zeros = 0; ended = true }
 
 -- the tally after one entry more, of magnitude m
-unfoldable pub step : ℕ → Tally → ℕ → Tally
+unfoldable pub step : ℕ → EntryTally → ℕ → EntryTally
 step v t m =
     record {
       entries = t .entries + 1;
@@ -28,6 +28,6 @@ step v t m =
     }
 
 -- the tally after more entries, of the magnitudes ms
-unfoldable pub tallied : ℕ → Tally → List ℕ → Tally
+unfoldable pub tallied : ℕ → EntryTally → List ℕ → EntryTally
 tallied v t [] = t
 tallied v t (m ∷ ms) = tallied v (step v t m) ms

@@ -8,16 +8,17 @@ ghost use Rattle.clauses.specs.Scanning.{startsLine, NextWord, scannedFr
 use crate::entry::put_entry;
 use crate::number::Number;
 use crate::number::read_number;
-use crate::tally::Tally;
+use crate::refusal::Refusal;
+use crate::tally::EntryTally;
 use crate::text::Class;
 use crate::text::Cursor;
 use crate::text::is_blank;
 use crate::text::run_end;
 
-// The tally of a body's numbers, or the place of the first word that is not a number.
+// The tally of a body's numbers, or refusal 3 with the place of the first word that is not a number.
 pub enum Scan {
-    Numbers(Tally),
-    Malformed(usize),
+    Numbers(EntryTally),
+    Refused(Refusal),
 }
 
 // Whether a line starts at a place.
@@ -54,17 +55,18 @@ fn next_word(text: &[u8], at: usize) -> usize
     i
 }
 
-// The tally of the numbers from a place on, for nets up to v; and the numbers to the start of kept, as far as it has room.
+// The tally of the numbers from a place on, for nets up to v; and the numbers to the start of kept, as far as it has room. A word
+// that is not a number ends the reading at its first byte.
 pub fn scan_numbers(text: &[u8], from: usize, v: u32, kept: &mut [i32]) -> Scan
     requires { ⌜ from ≤ length (now text) ⌝ }
     ensures { λ r. ⌜ r ≡ scannedFrom (now (text .entry)) from v ⌝ }
     ensures { λ _. ⌜ now (kept .exit) ≡ sets (now (kept .entry)) 0 (numbersFrom (now (text .entry)) from) ⌝ }
 {
-    let mut t = Tally::start();
+    let mut t = EntryTally::start();
     let mut at = next_word(text, from);
     while at < text.len() {
         let Number::Value(minus, m, next) = read_number(text, Cursor { at: at }) else {
-            return Scan::Malformed(at);
+            return Scan::Refused(Refusal::Word(at));
         };
         put_entry(kept, t.entries, minus, m);
         t = t.add(v, m);

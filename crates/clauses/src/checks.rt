@@ -6,7 +6,7 @@ use crate::limits::MAX_CLAUSES;
 use crate::limits::MAX_ENTRIES;
 use crate::limits::MAX_NETS;
 use crate::refusal::Refusal;
-use crate::tally::Tally;
+use crate::tally::EntryTally;
 
 pub enum Check {
     Passed,
@@ -30,7 +30,7 @@ pub fn check_sizes(v: u32, c: u32, entries: usize) -> Check
 }
 
 // Tests 10 to 12, of C and the tally of the entries.
-pub fn check_entries(c: u32, t: Tally) -> Check
+pub fn check_entries(c: u32, t: EntryTally) -> Check
     ensures { λ r. ⌜ r ≡ checkEntries c t ⌝ }
 {
     if t.within < t.entries {

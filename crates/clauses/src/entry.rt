@@ -10,9 +10,10 @@ ghost use lib.ListN.{length, getD, take, drop, set};
 ghost use Rattle.clauses.specs.Code.{codeOf};
 ghost use Rattle.clauses.specs.Limit.{maxNets};
 ghost use Rattle.clauses.specs.Number.{signed};
+use crate::walk::literal;
 
 // The magnitude of any entry, -2,147,483,648 too.
-fn magnitude(x: i32) -> u32
+pub fn magnitude(x: i32) -> u32
     ensures { λ r. ⌜ r ≡ natAbs x ⌝ }
 {
     if 0 <= x {
@@ -36,25 +37,22 @@ fn entry_of(minus: bool, m: u32) -> i32
     if minus { 0 - (m as i32) } else { m as i32 }
 }
 
-// The magnitude of a row's entry.
+// The magnitude of a row's entry, 0 past its end.
 pub fn magnitude_at(row: &[i32], i: usize) -> u32
-    requires { ⌜ i < length (now row) ⌝ }
     ensures { λ r. ⌜ r ≡ natAbs (getD (now (row .entry)) i (pos 0)) ⌝ }
 {
-    magnitude(row[i])
+    magnitude(literal(row, i))
 }
 
-// Whether a row's entry has a minus.
+// Whether a row's entry has a minus; there is none past its end.
 pub fn is_negative_at(row: &[i32], i: usize) -> bool
-    requires { ⌜ i < length (now row) ⌝ }
     ensures { λ r. ⌜ r ≡ not (nonNeg (getD (now (row .entry)) i (pos 0))) ⌝ }
 {
-    is_negative(row[i])
+    is_negative(literal(row, i))
 }
 
-// The literal code of a row's entry, of a net up to the limit.
+// The literal code of a row's entry, of a net up to the limit; 0 past its end.
 pub fn code_at(row: &[i32], i: usize) -> u32
-    requires { ⌜ i < length (now row) ⌝ }
     requires { ⌜ natAbs (getD (now row) i (pos 0)) ≤ maxNets ⌝ }
     ensures { λ r. ⌜ r ≡ getD (map codeOf (now (row .entry))) i 0 ⌝ }
 {

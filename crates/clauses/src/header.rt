@@ -4,7 +4,7 @@ ghost use mathlib.Core.Path.{_≡_};
 ghost use Prim.Native.Nat.{_+_, _≤_, _<_};
 ghost use lib.ListN.{length, drop};
 ghost use Rattle.clauses.specs.Reading.{isPassed, after, afterGap, afterFormat, sizes, headerLine};
-ghost use Rattle.clauses.specs.Scanning.{Reaches, asHeaderLine, Found};
+ghost use Rattle.clauses.specs.Scanning.{Reaches, asHeaderLine, HeaderFound};
 use crate::number::Unsigned;
 use crate::number::read_digits;
 use crate::text::Class;
@@ -23,52 +23,52 @@ pub enum Header {
 }
 
 // A place behind a part of a line, if the part is there.
-pub enum Step {
+pub enum PartEnd {
     At(usize),
     Missing,
 }
 
 // The place behind a word, if the line goes on with it.
-fn word_end(line: &[u8], at: usize, word: &[u8]) -> Step
+fn word_end(line: &[u8], at: usize, word: &[u8]) -> PartEnd
     requires { ⌜ at ≤ length (now line) ⌝ }
     ensures { λ r. ⌜ Reaches (now (line .entry)) (after (now (word .entry)) (drop at (now (line .entry)))) r ⌝ }
 {
     let mut i = 0;
     while i < word.len() {
         if line.len() - at <= i {
-            return Step::Missing;
+            return PartEnd::Missing;
         }
         if line[at + i] != word[i] {
-            return Step::Missing;
+            return PartEnd::Missing;
         }
         i += 1;
     }
-    Step::At(at + word.len())
+    PartEnd::At(at + word.len())
 }
 
 // The place behind one or more spaces or tabs, if the line goes on with them.
-fn gap_end(line: &[u8], at: usize) -> Step
+fn gap_end(line: &[u8], at: usize) -> PartEnd
     ensures { λ r. ⌜ Reaches (now (line .entry)) (afterGap (drop at (now (line .entry)))) r ⌝ }
 {
     let end = run_end(line, at, Class::Gap);
     if end == at {
-        return Step::Missing;
+        return PartEnd::Missing;
     }
-    Step::At(end)
+    PartEnd::At(end)
 }
 
 // The place of V in a line that has the form of a header up to there.
-fn format_end(line: &[u8]) -> Step
+fn format_end(line: &[u8]) -> PartEnd
     ensures { λ r. ⌜ Reaches (now (line .entry)) (afterFormat (now (line .entry))) r ⌝ }
 {
-    let Step::At(gap) = word_end(line, 0, b"p") else {
-        return Step::Missing;
+    let PartEnd::At(gap) = word_end(line, 0, b"p") else {
+        return PartEnd::Missing;
     };
-    let Step::At(format) = gap_end(line, gap) else {
-        return Step::Missing;
+    let PartEnd::At(format) = gap_end(line, gap) else {
+        return PartEnd::Missing;
     };
-    let Step::At(gap) = word_end(line, format, b"cnf") else {
-        return Step::Missing;
+    let PartEnd::At(gap) = word_end(line, format, b"cnf") else {
+        return PartEnd::Missing;
     };
     gap_end(line, gap)
 }
@@ -80,7 +80,7 @@ fn read_sizes(line: &[u8], at: usize) -> HeaderLine
     let Unsigned::Value(v, gap) = read_digits(line, at) else {
         return HeaderLine::Malformed;
     };
-    let Step::At(clauses) = gap_end(line, gap) else {
+    let PartEnd::At(clauses) = gap_end(line, gap) else {
         return HeaderLine::Malformed;
     };
     let Unsigned::Value(c, end) = read_digits(line, clauses) else {
@@ -96,7 +96,7 @@ fn read_sizes(line: &[u8], at: usize) -> HeaderLine
 fn read_header(line: &[u8]) -> HeaderLine
     ensures { λ r. ⌜ r ≡ asHeaderLine (headerLine (now (line .entry))) ⌝ }
 {
-    let Step::At(nets) = format_end(line) else {
+    let PartEnd::At(nets) = format_end(line) else {
         return HeaderLine::Malformed;
     };
     read_sizes(line, nets)
@@ -117,7 +117,7 @@ fn is_passed(line: &[u8]) -> bool
 // The header of a text: the first line that is not passed over.
 pub fn find_header(text: &[u8]) -> Header
     requires { ⌜ length (now text) < 18446744073709551615 ⌝ }
-    ensures { λ r. ⌜ Found (now (text .entry)) r ⌝ }
+    ensures { λ r. ⌜ HeaderFound (now (text .entry)) r ⌝ }
 {
     let mut at = 0;
     while at < text.len() {

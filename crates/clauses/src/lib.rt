@@ -11,4 +11,5 @@ pub mod reading;
 pub mod refusal;
 pub mod tally;
 mod text;
+pub mod walk;
 pub mod writing;

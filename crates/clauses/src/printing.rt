@@ -32,7 +32,7 @@ fn number_length(row: &[i32], i: usize) -> usize
     requires { ⌜ i < length (now row) ⌝ }
     ensures { λ r. ⌜ r ≡ length (signedDecimal (getD (now (row .entry)) i (pos 0))) ⌝ }
 {
-    let digits = decimal_length(magnitude_at(row, i));
+    let digits = decimal_length(magnitude_at(row, i) as u64);
     if is_negative_at(row, i) {
         return digits + 1;
     }
@@ -68,7 +68,7 @@ fn row_length(row: &[i32]) -> usize
 fn header_length(v: u32, c: u32) -> usize
     ensures { λ r. ⌜ r ≡ length (headerText v c) ⌝ }
 {
-    decimal_length(v) + decimal_length(c) + 8
+    decimal_length(v as u64) + decimal_length(c as u64) + 8
 }
 
 // The length of a list's text.
@@ -88,9 +88,9 @@ fn print_number(text: &mut [u8], at: usize, row: &[i32], i: usize) -> usize
     let m = magnitude_at(row, i);
     if is_negative_at(row, i) {
         let next = put(text, at, b'-');
-        return put_decimal(text, next, m);
+        return put_decimal(text, next, m as u64);
     }
-    put_decimal(text, at, m)
+    put_decimal(text, at, m as u64)
 }
 
 // Prints an entry.
@@ -126,8 +126,8 @@ fn print_header(text: &mut [u8], v: u32, c: u32) -> usize
     ensures { λ r. ⌜ Wrote (now (text .entry)) 0 (headerText v c) (now (text .exit)) r ⌝ }
 {
     let nets = put_bytes(text, 0, b"p cnf ");
-    let clauses = put_word(text, nets, v, b' ');
-    put_word(text, clauses, c, b'\n')
+    let clauses = put_word(text, nets, v as u64, b' ');
+    put_word(text, clauses, c as u64, b'\n')
 }
 
 // Prints a list's text at the start.

@@ -6,8 +6,8 @@ ghost use Prim.Native.Nat.{_≤_};
 ghost use lib.IntN.{ℤ};
 ghost use lib.ListN.{length};
 ghost use Rattle.clauses.specs.Limit.{maxEntries};
-ghost use Rattle.clauses.specs.Reading.{body, readNumbers, readBody, reading};
-ghost use Rattle.clauses.specs.Scanning.{wordsFrom, Keeps};
+ghost use Rattle.clauses.specs.Reading.{body, reading};
+ghost use Rattle.clauses.specs.Scanning.{wordsFrom, Keeps, readBody, readNumbers};
 ghost use Rattle.clauses.specs.Tally.{tallyOf};
 use crate::body::Scan;
 use crate::body::scan_numbers;
@@ -20,7 +20,7 @@ use crate::header::find_header;
 use crate::limits::MAX_ENTRIES;
 use crate::limits::MAX_TEXT;
 use crate::refusal::Refusal;
-use crate::tally::Tally;
+use crate::tally::EntryTally;
 
 // V, C and the number of entries of a list that was read.
 pub struct ListSize {
@@ -35,7 +35,7 @@ pub enum Reading {
 }
 
 // Tests 4 to 7 and 10 to 12, of numbers whose tally is t and which kept holds; and the numbers to the row.
-fn read_numbers(kept: &[i32], v: u32, c: u32, t: Tally, row: &mut [i32]) -> Reading
+fn read_numbers(kept: &[i32], v: u32, c: u32, t: EntryTally, row: &mut [i32]) -> Reading
     requires { ⌜ maxEntries ≤ length (now kept) ⌝ }
     ensures { λ r. ⌜ ((numbers : List ℤ) → Keeps (now (kept .entry)) numbers → t ≡ tallyOf v numbers
         → record { result = r; row = now (row .exit) } ≡ readNumbers (now (row .entry)) (record { nets = v; clauses = c }) numbers) ⌝ }
@@ -69,7 +69,7 @@ fn read_body(text: &[u8], from: usize, v: u32, c: u32, row: &mut [i32]) -> Readi
 {
     let mut kept = [0i32; MAX_ENTRIES];
     match scan_numbers(text, from, v, &mut kept) {
-        Scan::Malformed(p) => Reading::Refused(Refusal::Word(p)),
+        Scan::Refused(r) => Reading::Refused(r),
         Scan::Numbers(t) => read_numbers(&kept, v, c, t, row),
     }
 }

@@ -1,7 +1,14 @@
 // What is turned away: document 01's refusals, each with its number and place.
 
 ghost use mathlib.Core.Path.{_≡_};
-ghost use Rattle.clauses.specs.Refusal.{numberOf, placeOf};
+ghost use mathlib.Core.List.{_++_};
+ghost use lib.ListN.{length, drop};
+ghost use Rattle.clauses.specs.Refusal.{numberOf, placeOf, refusalText};
+use crate::writing::put_bytes;
+use crate::writing::put_word;
+
+// Bytes of the longest refusal text: the names, a number of two digits and a place of twenty.
+pub const MAX_REFUSAL: usize = 38;
 
 pub enum Refusal {
     TextTooLong,
@@ -62,4 +69,14 @@ pub fn place(r: Refusal) -> usize
         Refusal::BufferTooShort => 0,
         Refusal::TooManyRounds => 0,
     }
+}
+
+// Puts a refusal's text, as a program prints it, at the start of a buffer that holds any such text; how many bytes it has.
+pub fn put_refusal(r: Refusal, text: &mut [u8; MAX_REFUSAL]) -> usize
+    ensures { λ n. ⌜ n ≡ length (refusalText r) ⌝ }
+    ensures { λ _. ⌜ now (text .exit) ≡ refusalText r ++ drop (length (refusalText r)) (now (text .entry)) ⌝ }
+{
+    let at = put_bytes(text, 0, b"refusal,place\n");
+    let next = put_word(text, at, number(r) as u64, b',');
+    put_word(text, next, place(r) as u64, b'\n')
 }

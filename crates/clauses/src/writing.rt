@@ -1,10 +1,10 @@
 // Bytes and numbers put into a lent buffer, one after another.
 
 ghost use mathlib.Core.Path.{_≡_};
-ghost use mathlib.Core.List.{_∷_, [], _++_};
+ghost use mathlib.Core.List.{_∷_, []};
 ghost use Prim.Native.Nat.{_+_, _<_, _≤_};
 ghost use lib.ListN.{length};
-ghost use Rattle.clauses.specs.Number.{decimal};
+ghost use Rattle.clauses.specs.Number.{decimal, field};
 ghost use Rattle.clauses.specs.Writing.{Wrote};
 
 // Puts one byte; the place after it.
@@ -31,7 +31,7 @@ pub fn put_bytes(text: &mut [u8], at: usize, bytes: &[u8]) -> usize
 }
 
 // Puts a number in decimal; the place after it.
-pub fn put_decimal(text: &mut [u8], at: usize, n: u32) -> usize
+pub fn put_decimal(text: &mut [u8], at: usize, n: u64) -> usize
     requires { ⌜ at + length (decimal n) ≤ length (now text) ⌝ }
     ensures { λ r. ⌜ Wrote (now (text .entry)) at (decimal n) (now (text .exit)) r ⌝ }
 {
@@ -44,16 +44,16 @@ pub fn put_decimal(text: &mut [u8], at: usize, n: u32) -> usize
 }
 
 // Puts a number in decimal and one byte after it; the place after both.
-pub fn put_word(text: &mut [u8], at: usize, n: u32, b: u8) -> usize
-    requires { ⌜ at + length (decimal n ++ (b ∷ [])) ≤ length (now text) ⌝ }
-    ensures { λ r. ⌜ Wrote (now (text .entry)) at (decimal n ++ (b ∷ [])) (now (text .exit)) r ⌝ }
+pub fn put_word(text: &mut [u8], at: usize, n: u64, b: u8) -> usize
+    requires { ⌜ at + length (field n b) ≤ length (now text) ⌝ }
+    ensures { λ r. ⌜ Wrote (now (text .entry)) at (field n b) (now (text .exit)) r ⌝ }
 {
     let next = put_decimal(text, at, n);
     put(text, next, b)
 }
 
 // How many digits a number has.
-pub fn decimal_length(n: u32) -> usize
+pub fn decimal_length(n: u64) -> usize
     ensures { λ r. ⌜ r ≡ length (decimal n) ⌝ }
 {
     if n < 10 {

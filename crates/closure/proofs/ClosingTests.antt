@@ -1,7 +1,7 @@
 -- The tests of closing: what a check of the list tells, and what acceptance leaves.
 -- Assumes nothing.
 use mathlib.Core.Path.{_≡_, _∙_}
-use mathlib.Core.List.{List, [], _∷_}
+use mathlib.Core.List.{List, _∷_}
 use Prim.Native.Nat.{ℕ, _+_, _≤_, _<_}
 use native.Mathlib.Omega.{arith}
 use borrow.Author.Tests.{lt-ltb, le-ltb, ltb-false, not-false}
@@ -9,7 +9,7 @@ use lib.IntN.{ℤ}
 use lib.ListN.{length}
 use Rattle.clauses.specs.Clause.{clausesOf}
 use Rattle.clauses.specs.Listing.{Fits}
-use Rattle.clauses.specs.Refusal.{Test, decide, isEnded, entryTooLarge, notEnded, clauseCount}
+use Rattle.clauses.specs.Refusal.{Test, decide, isEnded, entryTests}
 use Rattle.clauses.specs.Tally.{tallyOf}
 use Rattle.clauses.specs.Check.{checkSizes, checkEntries}
 use Rattle.clauses.specs.declared.refusal.Refusal.{Refusal}
@@ -18,10 +18,10 @@ use Rattle.clauses.specs.declared.checks.Check.{Check}
 use Rattle.clauses.specs.declared.checks.Check.the-variants as K
 use Rattle.clauses.proofs.Deciding.{NoneHolds, decide-accepted, decide-none-holds}
 use Rattle.clauses.proofs.Fitting.{entries-fit}
-use Rattle.clauses.proofs.Tests.{passed-none-holds, decide-passed, decide-refused, sizes-passed, sizes-refused}
+use Rattle.clauses.proofs.Tests.{passed-none-holds, decide-append, decide-passed, decide-refused, sizes-passed, sizes-refused}
 use Rattle.rules.specs.Compute.{answer}
-use Rattle.closure.specs.Closing.{maxWork, leadsTooShort, workTooShort, listTests, checkList, Outcome, refused, accepted, closeRounds, closing}
-use Rattle.closure.specs.Passed.{Passed}
+use Rattle.closure.specs.Closing.{maxWork, leadsTooShort, workTooShort, listTests, checkList, Outcome, refused, accepted, closingTests, closing}
+use Rattle.closure.specs.Passed.{Passed, closeRounds}
 use Rattle.closure.specs.declared.close.Summary.{Summary}
 use Rattle.closure.specs.declared.close.Closing.{Closing}
 use Rattle.closure.specs.declared.close.Closing.the-variants.{Accepted, Refused}
@@ -32,7 +32,7 @@ use Rattle.rules.proofs.Theorems.{rounds-bound}
 module _ (v c : ℕ) (row : List ℤ) (leads work : ℕ) where
   -- the tests behind 5 to 7
   abbrev others : List Test
-  others = leadsTooShort v leads ∷ workTooShort work ∷ entryTooLarge v row ∷ notEnded row ∷ clauseCount c row ∷ []
+  others = leadsTooShort v leads ∷ workTooShort work ∷ entryTests v c row
 
   pub list-sizes : (r : Refusal) → checkSizes v c (length row) ≡ K.Refused r → checkList v c row leads work ≡ K.Refused r
   unfolding checkList
@@ -60,19 +60,27 @@ module _ (v c : ℕ) (row : List ℤ) (leads work : ℕ) where
   pub none-holds-fits : NoneHolds (listTests v c row leads work) → Fits v (clausesOf row)
   none-holds-fits n = entries-fit v row (ltb-false _ _ (n .1 .1 .1 .1 .1 .0))
 
+-- the tests of the list, and then the rest
+pub closing-parts : (v c : ℕ) (row : List ℤ) (limit : ℕ) (leads work : List ℕ)
+    → closing v c row limit leads work ≡ decide (refused leads work) (closeRounds v row limit leads work) (listTests v c row (length leads) (length work))
+unfolding closing closingTests closeRounds
+closing-parts v c row limit leads work = decide-append (refused leads work) _ (listTests v c row (length leads) (length work)) _
+
 module _ (v c : ℕ) (row : List ℤ) (leads work : List ℕ) where
   abbrev check : Check
   check = checkList v c row (length leads) (length work)
 
   pub closing-refused : (limit : ℕ) (r : Refusal) → check ≡ K.Refused r → closing v c row limit leads work ≡ refused leads work r
-  unfolding closing checkList
+  unfolding checkList
   closing-refused limit r h =
-      decide-refused (refused leads work) (closeRounds v row limit leads work) (listTests v c row (length leads) (length work)) r h
+      closing-parts v c row limit leads work
+      ∙ decide-refused (refused leads work) (closeRounds v row limit leads work) (listTests v c row (length leads) (length work)) r h
 
   pub closing-rounds : (limit : ℕ) → check ≡ K.Passed → closing v c row limit leads work ≡ closeRounds v row limit leads work
-  unfolding closing checkList
+  unfolding checkList
   closing-rounds limit h =
-      decide-passed (refused leads work) (closeRounds v row limit leads work) (listTests v c row (length leads) (length work)) h
+      closing-parts v c row limit leads work
+      ∙ decide-passed (refused leads work) (closeRounds v row limit leads work) (listTests v c row (length leads) (length work)) h
 
   none-holds-passed : NoneHolds (listTests v c row (length leads) (length work)) → Passed v row leads work
   none-holds-passed n =
@@ -113,8 +121,8 @@ refused-fails leads work r p = p
 
 module _ (v c : ℕ) (row : List ℤ) (limit : ℕ) (leads work : List ℕ) (s : Summary) (h : closing v c row limit leads work .result ≡ Accepted s) where
   none-holds : NoneHolds (listTests v c row (length leads) (length work))
-  unfolding closing is-accepted
-  none-holds = decide-none-holds (refused leads work) (closeRounds v row limit leads work) Passes (refused-fails leads work) (listTests v c row (length leads) (length work)) (rw h tt)
+  unfolding is-accepted
+  none-holds = decide-none-holds (refused leads work) (closeRounds v row limit leads work) Passes (refused-fails leads work) (listTests v c row (length leads) (length work)) (rw (← closing-parts v c row limit leads work, h) tt)
 
   pub accepted-passed : Passed v row leads work
   accepted-passed = none-holds-passed v c row leads work none-holds
@@ -123,7 +131,7 @@ module _ (v c : ℕ) (row : List ℤ) (limit : ℕ) (leads work : List ℕ) (s :
   accepted-fits = none-holds-fits v c row (length leads) (length work) none-holds
 
   pub accepted-outcome : closing v c row limit leads work ≡ accepted v leads work (answer v (clausesOf row) limit)
-  unfolding closing
   accepted-outcome =
-      decide-accepted (refused leads work) (closeRounds v row limit leads work) (listTests v c row (length leads) (length work)) none-holds
+      closing-parts v c row limit leads work
+      ∙ decide-accepted (refused leads work) (closeRounds v row limit leads work) (listTests v c row (length leads) (length work)) none-holds
       ∙ rounds-accepted v row limit leads work accepted-fits

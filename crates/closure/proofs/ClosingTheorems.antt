@@ -2,22 +2,23 @@
 -- Assumes nothing.
 use mathlib.Core.Path.{_≡_, refl, sym, _∙_, ap, subst⁻¹}
 use mathlib.Core.Logic.{_≢_, _↔_}
-use mathlib.Core.Bool.{Bool}
-use mathlib.Core.List.{List, [], _∷_, List·Memᴰ, List·Memᴰ·head, List·Memᴰ·tail}
+use mathlib.Core.Bool.{Bool, true, false≢true}
+use mathlib.Core.List.{List, [], _∷_}
 use Prim.Native.Nat.{ℕ, suc, _*_, _≤_, _<_}
 use native.Mathlib.Omega.{arith}
 use lib.IntN.{ℤ}
 use lib.ListN.{length, getD, take, drop, length-replicate}
 use lib.Seq.{take-at}
 use Rattle.clauses.specs.Clause.{clausesOf}
-use Rattle.clauses.specs.Listing.{Fits}
-use Rattle.clauses.specs.Refusal.{numberOf, Test, entryTooLarge, notEnded, clauseCount}
+use Rattle.clauses.specs.Listing.{mem, Fits}
+use Rattle.clauses.specs.Lists.{any, all}
+use Rattle.clauses.specs.Refusal.{numberOf, numbered, firstOver}
 use Rattle.clauses.specs.Renaming.{Renames, Images}
 use Rattle.clauses.specs.declared.refusal.Refusal.{Refusal}
 use Rattle.clauses.specs.declared.refusal.Refusal.the-variants.{TooManyRounds}
-use Rattle.clauses.proofs.Deciding.{NoneHolds, decide-has}
+use Rattle.clauses.proofs.Deciding.{NoneHolds, isAmong, decide-among}
 use Rattle.rules.specs.declared.Verdict.{Verdict}
-use Rattle.rules.specs.declared.Verdict.the-variants.{Contradiction, Settled}
+use Rattle.rules.specs.declared.Verdict.the-variants.{Contradiction, Settled, Unfinished}
 use Rattle.closure.specs.declared.close.Summary.{Summary}
 use Rattle.closure.specs.declared.close.Closing.the-variants.{Accepted, Refused}
 use Rattle.rules.specs.Grouping.{After}
@@ -25,9 +26,10 @@ use Rattle.rules.specs.Answer.{Answer, Leads, on-contradiction, otherwise, noLe
 use Rattle.rules.specs.Assignment.{Assignment, Satisfies}
 use Rattle.rules.specs.Renaming.{Renamed}
 use Rattle.rules.specs.Compute.{answer}
-use Rattle.closure.specs.Closing.{listTests, Outcome, refused, summary, accepted, closeRounds, closing, Answers}
-use Rattle.rules.proofs.Theorems.{answer-exact, answer-joined, answer-true, contradiction-true, settled-bound, rounds-bound, answer-beyond, demand-three}
-use Rattle.closure.proofs.ClosingTests.{none-holds-fits, rounds-accepted, accepted-fits, accepted-outcome}
+use Rattle.closure.specs.Closing.{listTests, closingTests, Outcome, refused, summary, accepted, closing, Answers}
+use Rattle.closure.specs.Passed.{closeRounds}
+use Rattle.rules.proofs.Theorems.{answer-exact, answer-joined, answer-true, contradiction-true, settled-bound, rounds-bound, answer-finished, answer-beyond, demand-three}
+use Rattle.closure.proofs.ClosingTests.{closing-parts, none-holds-fits, rounds-accepted, accepted-fits, accepted-outcome}
 
 pub leads-length : {v : ℕ} {G : ℕ → ℕ → Type 0} {w : Verdict} {g : ℕ} {l : List ℕ} → Leads v G w g l → length l ≡ v
 leads-length {v} on-contradiction = length-replicate v noLead
@@ -126,30 +128,30 @@ closing-renamed v c d limit row sow leads work leads′ work′ a b ρ h k ren i
     rw (answers-is v c row limit leads work a h, answers-is v d sow limit leads′ work′ b k)
     (demand-three v limit (clausesOf row) (clausesOf sow) ρ (fit v c row limit leads work a h) (fit v d sow limit leads′ work′ b k) ren images)
 
+-- A limit over V is enough: the list is settled, or there is a contradiction.
+pub closing-finished : (v c : ℕ) (row : List ℤ) (limit : ℕ) (leads work : List ℕ) (a : Answer) → v < limit → Answers v c row limit leads work a → a .verdict ≢ Unfinished
+closing-finished v c row limit leads work a h p e =
+    answer-finished v (clausesOf row) (fit v c row limit leads work a p) limit h (ap (λ (b : Answer). b .verdict) (sym (answers-is v c row limit leads work a p)) ∙ e)
+
+-- 'closing 5 to 12 and 14': document 01's numbers and places, in its order.
+pub closing-numbered : (v c : ℕ) (row : List ℤ) (limit : ℕ) (leads work : List ℕ)
+    → numbered (closingTests v c row limit leads work)
+    ≡ (5, 0) ∷ (6, 0) ∷ (7, 0) ∷ (8, 0) ∷ (9, 0) ∷ (10, firstOver v row) ∷ (11, 0) ∷ (12, 0) ∷ (14, 0) ∷ []
+unfolding numbered closingTests
+closing-numbered v c row limit leads work = refl
+
 -- Refusal 14 is never given.
 pub never-fourteen : (v c : ℕ) (row : List ℤ) (limit : ℕ) (leads work : List ℕ) → closing v c row limit leads work .result ≢ Refused TooManyRounds
-unfolding closing refused accepted
+unfolding refused accepted all any mem isAmong
 never-fourteen v c row limit leads work =
-    decide-has (refused leads work) (closeRounds v row limit leads work) Other (listTests v c row (length leads) (length work)) (λ t k e. early (t .refusal) (below t k) e) late
+    rw (closing-parts v c row limit leads work)
+    (decide-among (refused leads work) (closeRounds v row limit leads work) Other (5 ∷ 6 ∷ 7 ∷ 8 ∷ 9 ∷ 10 ∷ 11 ∷ 12 ∷ []) early (listTests v c row (length leads) (length work)) refl late)
   where
     Other : Outcome → Type 0
     Other o = o .result ≢ Refused TooManyRounds
 
-    early : (r : Refusal) → numberOf r ≤ 12 → Refused r ≡ Refused TooManyRounds → ⊥
-    early r h e = let same : r ≡ TooManyRounds = cc in omega (arith, ap numberOf same)
-
-    below : (t : Test) → List·Memᴰ t (listTests v c row (length leads) (length work)) → numberOf (t .refusal) ≤ 12
-    below t (List·Memᴰ·head e) = rw e (omega arith)
-    below t (List·Memᴰ·tail (List·Memᴰ·head e)) = rw e (omega arith)
-    below t (List·Memᴰ·tail (List·Memᴰ·tail (List·Memᴰ·head e))) = rw e (omega arith)
-    below t (List·Memᴰ·tail (List·Memᴰ·tail (List·Memᴰ·tail (List·Memᴰ·head e)))) = rw e (omega arith)
-    below t (List·Memᴰ·tail (List·Memᴰ·tail (List·Memᴰ·tail (List·Memᴰ·tail (List·Memᴰ·head e))))) = rw e (omega arith)
-    below t (List·Memᴰ·tail (List·Memᴰ·tail (List·Memᴰ·tail (List·Memᴰ·tail (List·Memᴰ·tail k))))) = entries t k
-      where
-        entries : (t : Test) → List·Memᴰ t (entryTooLarge v row ∷ notEnded row ∷ clauseCount c row ∷ []) → numberOf (t .refusal) ≤ 12
-        entries t (List·Memᴰ·head e) = rw e (omega arith)
-        entries t (List·Memᴰ·tail (List·Memᴰ·head e)) = rw e (omega arith)
-        entries t (List·Memᴰ·tail (List·Memᴰ·tail (List·Memᴰ·head e))) = rw e (omega arith)
+    early : (r : Refusal) → mem (numberOf r) (5 ∷ 6 ∷ 7 ∷ 8 ∷ 9 ∷ 10 ∷ 11 ∷ 12 ∷ []) ≡ true → Refused r ≡ Refused TooManyRounds → ⊥
+    early r h e = let same : r ≡ TooManyRounds = cc in false≢true (rw same at h)
 
     late : NoneHolds (listTests v c row (length leads) (length work)) → Other (closeRounds v row limit leads work)
     late n = rw (rounds-accepted v row limit leads work (none-holds-fits v c row (length leads) (length work) n)) (λ e. let z : _≡_ {A = ℕ} 0 1 = cc in omega arith)

@@ -1,37 +1,32 @@
 -- What the finder and the rounds leave is the answer, and closing accepts.
 -- Assumes nothing.
-use mathlib.Core.Path.{_≡_, refl, sym, _∙_, ap, subst, subst⁻¹}
+use mathlib.Core.Path.{_≡_, sym, _∙_, ap, subst, subst⁻¹}
 use mathlib.Core.Logic.{_↔_, eq-equivalence}
-use mathlib.Core.Bool.{true}
-use mathlib.Core.List.{List, [], _∷_, _++_, map}
-use Prim.Native.Nat.{ℕ, zero, suc, _+_, _-_, _≤_}
-use native.Mathlib.Omega.{arith}
-use native.Mathlib.Nat.{le-trans}
-use lib.IntN.{ℤ, pos, negsuc, natAbs}
+use mathlib.Core.List.{List, _++_, map}
+use Prim.Native.Nat.{ℕ, _+_, _-_, _≤_}
+use lib.IntN.{ℤ}
 use lib.ListN.{length, getD, take, drop, replicate}
 use lib.Seq.{sets}
-use borrow.Author.Tests.{eqb-true}
-use Rattle.clauses.specs.Limit.{maxNets}
-use Rattle.clauses.specs.Refusal.{firstOver, isEnded}
 use Rattle.clauses.specs.Code.{codeOf}
 use Rattle.clauses.specs.Clause.{clausesIn, clausesOf, Present}
 use Rattle.clauses.proofs.Fitting.{entries-fit}
-use Rattle.clauses.proofs.PrintedText.{within-head, within-tail}
 use Rattle.clauses.specs.Listing.{Fits}
 use Rattle.gates.specs.Counted.{AreCounts}
 use Rattle.gates.specs.Found.{Found}
 use Rattle.gates.specs.Normal.{normalRow, SmallEntries}
-use Rattle.gates.proofs.NormalForm.{firsts-same, normal-has, normal-clauses, normal-present, normal-length, normal-part}
+use Rattle.clauses.proofs.Clauses.{literals-same}
+use Rattle.gates.proofs.Entries.{entries-small, entries-ended}
+use Rattle.gates.proofs.Found.{found-same}
+use Rattle.gates.proofs.NormalForm.{normal-has, normal-clauses, normal-present, normal-length, normal-part}
 use Rattle.gates.proofs.Counting.{same-with, counted-once}
 use Rattle.gates.proofs.Counted.{ands-counted, xors-counted, ites-counted}
 use Rattle.rules.specs.declared.Verdict.{Verdict}
 use Rattle.closure.specs.declared.close.Closing.the-variants.{Accepted}
 use Rattle.rules.specs.Answer.{Answer, own}
 use Rattle.rules.specs.Compute.{ended, closed, tally, answer}
-use Rattle.closure.specs.Closing.{maxWork, summary, accepted, closeRounds}
-use Rattle.closure.specs.Passed.{Passed, ClosedTo}
+use Rattle.closure.specs.Closing.{maxWork, summary, accepted}
+use Rattle.closure.specs.Passed.{Passed, ClosedTo, closeRounds}
 use Rattle.rules.proofs.SameLists.{closed-same}
-use Rattle.closure.proofs.SameGates.{found-same}
 use Rattle.closure.proofs.ClosingTests.{never-too-many, rounds-accepted}
 
 module _ (v : ℕ) (row : List ℤ) (limit : ℕ) (leads work : List ℕ) (fit : Fits v (clausesOf row)) (ds : List (List ℕ)) (fit′ : Fits v ds)
@@ -74,28 +69,10 @@ module _ (v : ℕ) (row : List ℤ) (limit : ℕ) (leads work : List ℕ) (fit :
 
 -- By the steps of closing
 
-small-entries : (v : ℕ) (row : List ℤ) → length row ≤ firstOver v row → v ≤ maxNets → (i : ℕ) → natAbs (getD row i (pos 0)) ≤ maxNets
-small-entries v [] h k i = omega arith
-small-entries v (z ∷ row) h k zero = le-trans (within-head v z row h) k
-small-entries v (z ∷ row) h k (suc i) = small-entries v row (within-tail v z row h) k i
-
-zero-code : (z : ℤ) → natAbs z ≡ 0 → codeOf z ≡ 0
-unfolding codeOf
-zero-code (pos n) e = omega arith
-zero-code (negsuc n) e = absurd (omega arith)
-
-ended-zero : (row : List ℤ) → isEnded row ≡ true → getD (map codeOf row) (length row - 1) 0 ≡ 0
-unfolding isEnded
-ended-zero [] e = refl
-ended-zero (z ∷ []) e = zero-code z (eqb-true (natAbs z) 0 e)
-ended-zero (z ∷ y ∷ row) e =
-    let h : length (z ∷ y ∷ row) - 1 ≡ suc (length (y ∷ row) - 1) = omega arith in
-    rw h (ended-zero (y ∷ row) e)
-
 -- what the finder asks of a row
 pub passed-findable : (v : ℕ) (row : List ℤ) (leads work : List ℕ) → Passed v row leads work
     → SmallEntries row × (getD (map codeOf row) (length row - 1) 0 ≡ 0)
-passed-findable v row leads work p = (small-entries v row (p .within) (p .nets), ended-zero row (p .ended))
+passed-findable v row leads work p = (entries-small v row (p .nets) (p .within), entries-ended row (p .ended))
 
 -- what the finder has left at the start of two rows
 pub record Left (v : ℕ) (row : List ℤ) (codes marks : List ℕ) (n : ℕ) : Type 0 where
@@ -112,7 +89,7 @@ finder-left v row leads work p codes₀ codes marks n room en ec f =
       few = subst⁻¹ (λ (k : ℕ). k ≤ length row) en (normal-length row ends);
       found =
           subst⁻¹ (λ (r : List ℕ). Found (clausesIn r) r (take n marks)) part
-          (found-same (clausesOf row) (clausesIn N) (normal-present row) (subst⁻¹ (λ (k : ℕ). Found (clausesOf row) N (take k marks)) en f));
+          (found-same (normal-present row) (subst⁻¹ (λ (k : ℕ). Found (clausesOf row) N (take k marks)) en f));
       same = subst⁻¹ (λ (r : List ℕ). (c : List ℕ) → Present (clausesIn r) c ↔ Present (clausesOf row) c) part (λ c. (normal-present row c .1, normal-present row c .0));
       fits = subst⁻¹ (λ (r : List ℕ). Fits v (clausesIn r)) part fits;
     }
@@ -121,7 +98,7 @@ finder-left v row leads work p codes₀ codes marks n room en ec f =
     N = normalRow row
 
     ends : getD (map codeOf row) (length row - 1) 0 ≡ 0
-    ends = ended-zero row (p .ended)
+    ends = entries-ended row (p .ended)
 
     part : take n codes ≡ N
     part = rw (en, ec) (normal-part row ends codes₀ room)
@@ -129,7 +106,7 @@ finder-left v row leads work p codes₀ codes marks n room en ec f =
     fits : Fits v (clausesIn N)
     fits c k x m =
         let o = normal-has (clausesOf row) c (rw (normal-clauses row) at k) in
-        entries-fit v row (p .within) (o .of) (o .listed) x (firsts-same (o .of) .left x (rw (o .is) at m))
+        entries-fit v row (p .within) (o .of) (o .listed) x (literals-same (o .of) .left x (rw (o .is) at m))
 
 module _ (v : ℕ) (row : List ℤ) (limit : ℕ) (leads work : List ℕ) (p : Passed v row leads work)
     (codes marks : List ℕ) (m a x i : ℕ) (q : Left v row codes marks m) (counts : AreCounts (clausesOf row) a x i)

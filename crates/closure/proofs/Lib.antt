@@ -1,5 +1,4 @@
 pub mod RoundsMade
-pub mod SameGates
 pub mod ActiveRounds
 pub mod Running
 pub mod Loop

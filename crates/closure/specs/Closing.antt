@@ -7,7 +7,7 @@ use lib.Dec.{ltb}
 use lib.IntN.{ℤ}
 use lib.ListN.{length, take, drop, replicate}
 use Rattle.clauses.specs.Clause.{clausesOf}
-use Rattle.clauses.specs.Refusal.{Test, decide, tooManyNets, tooManyClauses, tooManyEntries, entryTooLarge, notEnded, clauseCount}
+use Rattle.clauses.specs.Refusal.{Test, decide, sizeTests, entryTests}
 use Rattle.clauses.specs.declared.refusal.Refusal.{Refusal}
 use Rattle.clauses.specs.declared.refusal.Refusal.the-variants.{LeadsTooShort, WorkTooShort, TooManyRounds}
 use Rattle.clauses.specs.declared.checks.Check.{Check}
@@ -32,9 +32,7 @@ workTooShort entries = record { holds = ltb entries maxWork; refusal = WorkTooSh
 
 -- tests 5 to 12, of V, C, a literal row and the numbers of entries that the lead row and the work row have
 abbrev pub listTests : ℕ → ℕ → List ℤ → ℕ → ℕ → List Test
-listTests v c row leads work =
-    tooManyNets v ∷ tooManyClauses c ∷ tooManyEntries row ∷ leadsTooShort v leads ∷ workTooShort work
-    ∷ entryTooLarge v row ∷ notEnded row ∷ clauseCount c row ∷ []
+listTests v c row leads work = sizeTests v c row ++ (leadsTooShort v leads ∷ workTooShort work ∷ entryTests v c row)
 
 -- whether a list passes them
 unfoldable pub checkList : ℕ → ℕ → List ℤ → ℕ → ℕ → Check
@@ -66,16 +64,14 @@ unfoldable pub accepted : ℕ → List ℕ → List ℕ → Answer → Outcome
 accepted v leads work a =
     record { result = Accepted (summary a); leads = a .leads ++ drop v leads; work = replicate maxWork 0 ++ drop maxWork work }
 
--- test 14, and the answer
-unfoldable pub closeRounds : ℕ → List ℤ → ℕ → List ℕ → List ℕ → Outcome
-closeRounds v row limit leads work =
-    let a = answer v (clausesOf row) limit in
-    decide (refused leads work) (accepted v leads work a) (tooManyRounds v a ∷ [])
-
 -- 'closing 5 to 12 and 14', of V, C, a literal row, a round limit, a lent lead row and a lent work row
+unfoldable pub closingTests : ℕ → ℕ → List ℤ → ℕ → List ℕ → List ℕ → List Test
+closingTests v c row limit leads work =
+    listTests v c row (length leads) (length work) ++ (tooManyRounds v (answer v (clausesOf row) limit) ∷ [])
+
 unfoldable pub closing : ℕ → ℕ → List ℤ → ℕ → List ℕ → List ℕ → Outcome
 closing v c row limit leads work =
-    decide (refused leads work) (closeRounds v row limit leads work) (listTests v c row (length leads) (length work))
+    decide (refused leads work) (accepted v leads work (answer v (clausesOf row) limit)) (closingTests v c row limit leads work)
 
 -- closing accepts the list and answers a: its leads are the first V codes of the lead row
 pub record Answers (v c : ℕ) (row : List ℤ) (limit : ℕ) (leads work : List ℕ) (a : Answer) : Type 0 where

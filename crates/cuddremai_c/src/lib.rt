@@ -7,7 +7,7 @@ ghost use Rattle.clauses.specs.Printing.{printing};
 ghost use Rattle.closure.specs.Closing.{closing};
 ghost use Rattle.sheet.specs.Writing.{writing};
 ghost use Rattle.sheet.specs.Comparing.{comparing};
-ghost use Rattle.cuddremai_c.specs.Calling.{verdictNumber, readCall, printCall, closeCall, sheetCall, compareCall};
+ghost use Rattle.cuddremai_c.specs.Calling.{verdictNumber, readCall, printCall, closeCall, sheetCall};
 use clauses::printing::Printing;
 use clauses::printing::print;
 use clauses::reading::Reading;
@@ -41,8 +41,9 @@ pub extern "C" fn cuddremai_read(
     entries: &mut usize,
     place: &mut usize,
 ) -> u32
-    ensures { λ r. ⌜ record { number = r; place = now (place .exit); nets = now (nets .exit); clauses = now (clauses .exit); entries = now (entries .exit); row = now (row .exit) }
-        ≡ readCall (reading (now (text .entry)) (now (row .entry))) (now (nets .entry)) (now (clauses .entry)) (now (entries .entry)) ⌝ }
+    ensures answer { λ r. ⌜ record { number = r; place = now (place .exit); values = record { nets = now (nets .exit); clauses = now (clauses .exit); entries = now (entries .exit) } }
+        ≡ readCall (reading (now (text .entry)) (now (row .entry)) .result) (record { nets = now (nets .entry); clauses = now (clauses .entry); entries = now (entries .entry) }) ⌝ }
+    ensures row { λ _. ⌜ now (row .exit) ≡ reading (now (text .entry)) (now (row .entry)) .row ⌝ }
 {
     match read(text, row) {
         Reading::Refused(r) => {
@@ -69,8 +70,9 @@ pub extern "C" fn cuddremai_print(
     written: &mut usize,
     place: &mut usize,
 ) -> u32
-    ensures { λ r. ⌜ record { number = r; place = now (place .exit); written = now (written .exit); text = now (text .exit) }
-        ≡ printCall (printing nets clauses (now (row .entry)) (now (text .entry))) (now (written .entry)) ⌝ }
+    ensures answer { λ r. ⌜ record { number = r; place = now (place .exit); values = now (written .exit) }
+        ≡ printCall (printing nets clauses (now (row .entry)) (now (text .entry)) .result) (now (written .entry)) ⌝ }
+    ensures text { λ _. ⌜ now (text .exit) ≡ printing nets clauses (now (row .entry)) (now (text .entry)) .buffer ⌝ }
 {
     match print(nets, clauses, row, text) {
         Printing::Refused(r) => {
@@ -97,8 +99,10 @@ pub extern "C" fn cuddremai_close(
     summary: &mut [u32; 6],
     place: &mut usize,
 ) -> u32
-    ensures { λ r. ⌜ record { number = r; place = now (place .exit); summary = now (summary .exit); leads = now (leads .exit); work = now (work .exit) }
-        ≡ closeCall (closing nets clauses (now (row .entry)) limit (now (leads .entry)) (now (work .entry))) (now (summary .entry)) ⌝ }
+    ensures answer { λ r. ⌜ record { number = r; place = now (place .exit); values = now (summary .exit) }
+        ≡ closeCall (closing nets clauses (now (row .entry)) limit (now (leads .entry)) (now (work .entry)) .result) (now (summary .entry)) ⌝ }
+    ensures leads { λ _. ⌜ now (leads .exit) ≡ closing nets clauses (now (row .entry)) limit (now (leads .entry)) (now (work .entry)) .leads ⌝ }
+    ensures work { λ _. ⌜ now (work .exit) ≡ closing nets clauses (now (row .entry)) limit (now (leads .entry)) (now (work .entry)) .work ⌝ }
 {
     match close(nets, clauses, row, limit, leads, work) {
         Closing::Refused(r) => {
@@ -134,8 +138,11 @@ pub extern "C" fn cuddremai_sheet(
     written: &mut usize,
     place: &mut usize,
 ) -> u32
-    ensures { λ r. ⌜ record { number = r; place = now (place .exit); written = now (written .exit); leads = now (leads .exit); work = now (work .exit); text = now (text .exit) }
-        ≡ sheetCall (writing nets clauses (now (row .entry)) limit (now (leads .entry)) (now (work .entry)) (now (text .entry))) (now (written .entry)) ⌝ }
+    ensures answer { λ r. ⌜ record { number = r; place = now (place .exit); values = now (written .exit) }
+        ≡ sheetCall (writing nets clauses (now (row .entry)) limit (now (leads .entry)) (now (work .entry)) (now (text .entry)) .result) (now (written .entry)) ⌝ }
+    ensures leads { λ _. ⌜ now (leads .exit) ≡ writing nets clauses (now (row .entry)) limit (now (leads .entry)) (now (work .entry)) (now (text .entry)) .leads ⌝ }
+    ensures work { λ _. ⌜ now (work .exit) ≡ writing nets clauses (now (row .entry)) limit (now (leads .entry)) (now (work .entry)) (now (text .entry)) .work ⌝ }
+    ensures text { λ _. ⌜ now (text .exit) ≡ writing nets clauses (now (row .entry)) limit (now (leads .entry)) (now (work .entry)) (now (text .entry)) .text ⌝ }
 {
     match write(nets, clauses, row, limit, leads, work, text) {
         Writing::Refused(r) => {
@@ -158,8 +165,9 @@ pub extern "C" fn cuddremai_compare(
     written: &mut usize,
     place: &mut usize,
 ) -> u32
-    ensures { λ r. ⌜ record { number = r; place = now (place .exit); written = now (written .exit); text = now (text .exit) }
-        ≡ compareCall (comparing (now (input .entry)) (now (text .entry))) (now (written .entry)) ⌝ }
+    ensures answer { λ r. ⌜ record { number = r; place = now (place .exit); values = now (written .exit) }
+        ≡ sheetCall (comparing (now (input .entry)) (now (text .entry)) .result) (now (written .entry)) ⌝ }
+    ensures text { λ _. ⌜ now (text .exit) ≡ comparing (now (input .entry)) (now (text .entry)) .text ⌝ }
 {
     match compare(input, text) {
         Writing::Refused(r) => {

@@ -51,10 +51,10 @@ pub record Two (xs : List ℕ) : Type 0 where
   pub two-in : Mem two xs
   pub differ : one ≢ two
 
-two-of : (xs : List ℕ) → Distinct xs → 2 ≤ length xs → Two xs
-two-of [] d h = absurd (not-suc-le-zero h)
-two-of (x ∷ []) d h = absurd (not-suc-le-zero (le-of-suc-le-suc h))
-two-of (x ∷ y ∷ xs) (more n d) h =
+some-two : (xs : List ℕ) → Distinct xs → 2 ≤ length xs → Two xs
+some-two [] d h = absurd (not-suc-le-zero h)
+some-two (x ∷ []) d h = absurd (not-suc-le-zero (le-of-suc-le-suc h))
+some-two (x ∷ y ∷ xs) (more n d) h =
     record { one = x; two = y; one-in = in-first; two-in = in-second; differ = λ e. n (List·Memᴰ·head e) }
 
 pub two-long : (xs : List ℕ) → Two xs → 2 ≤ length xs
@@ -98,7 +98,7 @@ and-picked {cs} {c} {rest} {l} i d h long pairs =
     ins = pick-inputs i d
 
     two : Two rest
-    two = two-of rest (distinct-tail (pick-distinct i d)) (go long (pick-length i))
+    two = some-two rest (distinct-tail (pick-distinct i d)) (go long (pick-length i))
       where
         go : 3 ≤ length c → length c ≡ suc (length rest) → 2 ≤ length rest
         go a b = omega arith

@@ -1,18 +1,17 @@
 -- Buckets of clauses: equal sets have the same one.
 -- Assumes nothing.
 use mathlib.Core.Path.{_≡_, refl, sym, _∙_, ap}
-use mathlib.Core.List.{List, _∷_}
+use mathlib.Core.List.{List}
 use Prim.Native.Nat.{ℕ, _+_, _*_, _%_, _≤_, _<_}
 use native.Mathlib.Nat.{mul-le-mul}
 use native.Mathlib.Omega.{arith}
 use lib.ListN.{length, getD, drop}
-use borrow.Table.Steps.{cases}
 use Rattle.clauses.specs.Lists.{Pick, first, later}
 use Rattle.clauses.specs.Clause.{Same}
-use Rattle.clauses.specs.Listing.{mem, literals}
-use Rattle.clauses.proofs.Distinct.{Distinct, empty, more}
+use Rattle.clauses.specs.Listing.{literals}
+use Rattle.clauses.proofs.Distinct.{Distinct}
 use Rattle.clauses.proofs.Picks.{Perm, perm-of-same}
-use Rattle.clauses.proofs.Clauses.{mem-in, same-sym, same-trans, literals-same, literals-distinct}
+use Rattle.clauses.proofs.Clauses.{same-sym, same-trans, literals-same, literals-distinct, literals-once}
 use Rattle.gates.specs.Found.{clauseAt}
 use Rattle.gates.specs.Index.{share, sum, buckets, bucketOf}
 use Rattle.gates.proofs.Rows.{clause-stops, clause-goes-on}
@@ -37,11 +36,6 @@ same-bucket c d s =
 pub bucket-small : (c : List ℕ) → bucketOf c < buckets
 unfolding bucketOf
 bucket-small c = omega arith
-
-pub literals-once : {c : List ℕ} → Distinct c → literals c ≡ c
-unfolding literals
-literals-once empty = refl
-literals-once (more {x = x} {xs = xs} n d) = cases (mem x xs) (λ t. absurd (n (mem-in x xs t))) (λ t. rw (t, literals) (ap (λ (l : List ℕ). x ∷ l) (literals-once d)))
 
 -- The sum so far, and that of the rest
 

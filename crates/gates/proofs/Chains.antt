@@ -54,11 +54,7 @@ module _ (In : ℕ → ℕ → Type 0) where
             rw (e, getD-set-same next m (getD heads b 0) 0 room, z) (c .head b inside)
         link i x l d (no n) = rw (getD-set-other next m i (getD heads b 0) 0 n) (c .link i x (omega arith) d)
 
-    -- what stands for m and after it does not matter
-    pub chain-free : (v : ℕ) → ChainedIn In m heads (set next m v)
-    chain-free v = record { head = c .head; link = λ i b l d. rw (getD-set-other next m i v 0 (omega arith)) (c .link i b l d) }
-
--- .. nor does what the numbers from m on are in
+-- what the numbers from m on are in does not matter
 module _ {In On : ℕ → ℕ → Type 0} where
   last-moved : {b m k : ℕ} → ((i : ℕ) → i < m → In i b → On i b) → ((i : ℕ) → i < m → On i b → In i b) → Last In b m k → Last On b m k
   last-moved f g o = record { low = o .low; at = λ l. f _ (omega (arith, o .low)) (o .at l); none = λ i l d. o .none i l (g i l d) }

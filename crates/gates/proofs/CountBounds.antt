@@ -2,6 +2,7 @@
 -- Assumes nothing.
 use mathlib.Core.Path.{_≡_}
 use mathlib.Core.Logic.{_↔_, eq-equivalence}
+use mathlib.Core.Bool.{Bool}
 use mathlib.Core.List.{List, [], _∷_, map}
 use Prim.Native.Nat.{ℕ, _-_, _*_, _≤_}
 use native.Mathlib.Omega.{arith}
@@ -18,7 +19,7 @@ use Rattle.gates.specs.Normal.{Normal, normalRow, SmallEntries}
 use Rattle.gates.specs.Ites.{Half, allHalves, output, side, isMate, isPlainHalf, mates, pairsOf}
 use Rattle.gates.proofs.Counting.{counted-once, same-with}
 use Rattle.gates.proofs.HowMany.{many-le}
-use Rattle.gates.proofs.HalfChains.{halves-length}
+use Rattle.gates.proofs.Halves.{halves-length}
 use Rattle.gates.proofs.AndMarks.{ands-many}
 use Rattle.gates.proofs.XorMarks.{xors-many}
 use Rattle.gates.proofs.IteMarks.{ites-many}
@@ -45,10 +46,12 @@ module _ (row : List ℕ) (short : length row ≤ maxEntries) where
       mate : Half → Half → Half × Half
       mate h m = (h, m)
 
-  pairs-few : length (pairsOf row (allHalves row)) ≤ 1073741824
+  few-pairs : (hs : List Half) → length hs ≤ 32768 → length (pairsOf row hs) ≤ 1073741824
   unfolding pairsOf with-mates
-  pairs-few =
-      omega (arith, each-few (keep (isPlainHalf row) (allHalves row)) with-mates mates-few, keep-length (isPlainHalf row) (allHalves row), all-few)
+  few-pairs hs l = omega (arith, each-few (keep (isPlainHalf row) hs) with-mates mates-few, keep-length (isPlainHalf row) hs)
+
+  pub kept-pairs-few : (test : Half → Bool) → length (pairsOf row (keep test (allHalves row))) ≤ 1073741824
+  kept-pairs-few test = few-pairs (keep test (allHalves row)) (omega (arith, keep-length test (allHalves row), all-few))
 
 -- the counts of a list that the finder takes
 pub counts-few : (row : List ℤ) → length row ≤ maxEntries → SmallEntries row → getD (map codeOf row) (length row - 1) 0 ≡ 0
@@ -56,7 +59,7 @@ pub counts-few : (row : List ℤ) → length row ≤ maxEntries → SmallEntries
 counts-few row short small ended k = (
   rw (counted-once same-with (k .and-count) (ands-many normal same)) (omega (arith, many-le (andAt N) (length N), few)),
   rw (counted-once same-with (k .xor-count) (xors-many normal same)) (omega (arith, many-le (xorAt N) (length N), few)),
-  rw (counted-once eq-equivalence (k .ite-count) (ites-many normal same)) (pairs-few N few),
+  rw (counted-once eq-equivalence (k .ite-count) (ites-many normal same)) (few-pairs N few (allHalves N) (all-few N few)),
 )
   where
     N : List ℕ

@@ -10,7 +10,7 @@ use Rattle.clauses.proofs.Clauses.{same-sym, same-trans}
 use Rattle.gates.specs.declared.search.Place.{Place}
 use Rattle.gates.specs.declared.search.Place.the-variants.{At, Nothing}
 use Rattle.gates.specs.Found.{clauseAt, Starts}
-use Rattle.gates.specs.Search.{placeOf}
+use Rattle.gates.specs.Search.{firstPlace}
 use Rattle.gates.specs.Mark.{isAt, isFirst}
 use Rattle.gates.proofs.Rows.{listed-starts}
 use Rattle.gates.proofs.Places.{First, place-first, place-nothing, first-only, first-place}
@@ -21,9 +21,9 @@ module _ (row : List ℕ) where
 
   pub first-is : (b : ℕ) → isFirst row b ≡ true → First row (clauseAt row b) b
   unfolding isFirst isAt
-  first-is b h = go (placeOf row (clauseAt row b)) refl
+  first-is b h = go (firstPlace row (clauseAt row b)) refl
     where
-      go : (r : Place) → placeOf row (clauseAt row b) ≡ r → First row (clauseAt row b) b
+      go : (r : Place) → firstPlace row (clauseAt row b) ≡ r → First row (clauseAt row b) b
       go (At a) e = place-first row (clauseAt row b) (e ∙ ap At (eqb-true a b (rw e at h)))
       go Nothing e = absurd (false≢true (rw e at h))
 
@@ -43,9 +43,9 @@ module _ (row : List ℕ) where
     pub same : Same c (clauseAt row place)
 
   pub first-of : {c : List ℕ} → Present (clausesIn row) c → FirstOf c
-  first-of {c} h = go (placeOf row c) refl
+  first-of {c} h = go (firstPlace row c) refl
     where
-      go : (r : Place) → placeOf row c ≡ r → FirstOf c
+      go : (r : Place) → firstPlace row c ≡ r → FirstOf c
       go (At b) e =
           let f = place-first row c e in
           record { place = b; start = f .start; first = is-first b (first-same (f .same) f); same = f .same }

@@ -4,27 +4,8 @@ use mathlib.Core.Logic.{_↔_}
 use mathlib.Core.List.{List}
 use Prim.Native.Nat.{ℕ}
 use Rattle.clauses.specs.Clause.{Present}
-use Rattle.gates.specs.Gate.{AndGate, IteGate}
-use Rattle.gates.specs.Count.{andCount, xorCount, iteCount}
 use Rattle.gates.specs.Found.{Found}
-use Rattle.gates.proofs.XorMarks.{xor-present}
-
-and-present : {cs ds : List (List ℕ)} {c : List ℕ} {l : ℕ} → ((d : List ℕ) → Present cs d → Present ds d) → AndGate cs c l → AndGate ds c l
-and-present {c = c} to g =
-    record {
-      clause = to c (g .clause);
-      output = g .output;
-      one = g .one;
-      two = g .two;
-      one-in = g .one-in;
-      two-in = g .two-in;
-      differ = g .differ;
-      pairs = λ r i. to _ (g .pairs r i);
-    }
-
-ite-present : {cs ds : List (List ℕ)} {l c t e : ℕ} → ((d : List ℕ) → Present cs d → Present ds d) → IteGate cs l c t e → IteGate ds l c t e
-ite-present to g =
-    record { apart = g .apart; then-up = to _ (g .then-up); then-down = to _ (g .then-down); else-up = to _ (g .else-up); else-down = to _ (g .else-down) }
+use Rattle.gates.proofs.MoreClauses.{and-present, xor-present, ite-present}
 
 pub found-same : {cs ds : List (List ℕ)} {row marks : List ℕ} → ((c : List ℕ) → Present cs c ↔ Present ds c) → Found cs row marks → Found ds row marks
 found-same {cs} {ds} same f =

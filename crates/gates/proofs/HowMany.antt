@@ -10,7 +10,7 @@ use native.Mathlib.Omega.{arith}
 use lib.ListN.{length, length-append}
 use Rattle.clauses.specs.Clause.{Mem}
 use Rattle.clauses.specs.Lists.{keep, from}
-use Rattle.clauses.proofs.Lists.{keep-length, keep-has, has-keep, from-in, from-low, from-length}
+use Rattle.clauses.proofs.Lists.{keep-length, keep-append, keep-has, has-keep, from-in, from-low, from-length}
 use Rattle.clauses.proofs.Distinct.{keep-distinct, from-distinct}
 use Rattle.gates.specs.Counted.{Counted}
 use Rattle.gates.specs.Mark.{howMany}
@@ -22,21 +22,12 @@ from-snoc a zero = ap (λ (x : ℕ). x ∷ []) (sym (add-zero a))
 from-snoc a (suc n) = let e : suc a + n ≡ a + suc n = omega arith in ap (λ (l : List ℕ). a ∷ l) (rw e at (from-snoc (suc a) n))
 
 module _ (f : ℕ → Bool) where
-  keep-append : (xs ys : List ℕ) → keep f (xs ++ ys) ≡ keep f xs ++ keep f ys
-  unfolding keep
-  keep-append [] ys = refl
-  keep-append (x ∷ xs) ys = go (f x) refl (keep-append xs ys)
-    where
-      go : (b : Bool) → f x ≡ b → keep f (xs ++ ys) ≡ keep f xs ++ keep f ys → keep f (x ∷ xs ++ ys) ≡ keep f (x ∷ xs) ++ keep f ys
-      go true e ih = rw (e, keep) (ap (λ (l : List ℕ). x ∷ l) ih)
-      go false e ih = rw (e, keep) ih
-
   many-on : (n : ℕ) → howMany f (n + 1) ≡ howMany f n + length (keep f (n ∷ []))
   unfolding howMany
   many-on n =
       let z : 0 + n ≡ n = omega arith in
       ap (λ (k : ℕ). length (keep f (from 0 k))) (add-one n) ∙ ap (λ (l : List ℕ). length (keep f l)) (rw z at (from-snoc 0 n))
-      ∙ ap length (keep-append (from 0 n) (n ∷ [])) ∙ length-append (keep f (from 0 n)) (keep f (n ∷ []))
+      ∙ ap length (keep-append f (from 0 n) (n ∷ [])) ∙ length-append (keep f (from 0 n)) (keep f (n ∷ []))
 
   pub many-none : howMany f 0 ≡ 0
   unfolding howMany from keep

@@ -1,9 +1,9 @@
 -- The marks of the sides say which ITEs there are, and the number of pairs of halves how many.
 -- Assumes nothing.
-use mathlib.Core.Path.{_≡_, refl, sym, _∙_, ap, subst, subst⁻¹}
+use mathlib.Core.Path.{_≡_, sym, _∙_, ap, subst, subst⁻¹}
 use mathlib.Core.Logic.{_⊎_, inl, inr, _↔_}
 use mathlib.Core.Bool.{Bool, true, false, not, cond}
-use mathlib.Core.List.{List, [], _∷_, map, List·Memᴰ, List·Memᴰ·head, List·Memᴰ·not-nil}
+use mathlib.Core.List.{List, map, List·Memᴰ}
 use Prim.Native.Nat.{ℕ, _+_, _/_, _%_, _<_}
 use native.Mathlib.Omega.{arith}
 use borrow.Author.Tests.{eq-eqb, ne-eqb, lt-ltb, ltb-true}
@@ -31,7 +31,7 @@ use Rattle.gates.proofs.Marks.{literal-inside}
 use Rattle.gates.proofs.Threes.{InThree, in-three-is}
 use Rattle.gates.proofs.Halves.{paired-in-three, place-inside, no-mark}
 use Rattle.gates.proofs.Sides.{half-literal, half-once}
-use Rattle.gates.proofs.Mates.{in-all, all-distinct, Mate, mate-is, is-mate, mate-ite, Halved, ite-halved}
+use Rattle.gates.proofs.Mates.{some-of, of-some, in-all, all-distinct, Mate, mate-is, is-mate, mate-ite, Halved, ite-halved}
 
 -- Marks
 
@@ -73,14 +73,6 @@ module _ {row before marks : List ℕ} (bits : (p : ℕ) → getD before p 0 < 2
     where
       literal : InThree row p → ⊥
       literal t = literal-some row (startOf row p) p (t .low) (omega (arith, t .high, t .clause .size)) z
-
-some-of : {A : Type 0} (l : List A) → 0 < length l → (x : A) × List·Memᴰ x l
-some-of [] h = absurd (omega arith)
-some-of (x ∷ l) h = (x, List·Memᴰ·head refl)
-
-of-some : {A : Type 0} {x : A} (l : List A) → List·Memᴰ x l → 0 < length l
-of-some [] m = absurd (List·Memᴰ·not-nil m)
-of-some (y ∷ l) m = omega arith
 
 module _ {cs : List (List ℕ)} {row : List ℕ} (normal : Normal row) (same : (c : List ℕ) → Present cs c ↔ Present (clausesIn row) c) where
   -- a half with a mate
@@ -197,7 +189,7 @@ module _ {row : List ℕ} (normal : Normal row) where
       let r = mem-of-map (λ m. (k, m)) (mates row k) y in
       ap (λ (z : Half × Half). z .0) (sym (o .is) ∙ r .is))
 
-  half-same : (h k : Half) → isPaired row (h .place) ≡ true → isPaired row (k .place) ≡ true → getD row (h .place) 0 ≡ getD row (k .place) 0
+  pub half-same : (h k : Half) → isPaired row (h .place) ≡ true → isPaired row (k .place) ≡ true → getD row (h .place) 0 ≡ getD row (k .place) 0
       → output row h ≡ output row k → side row h ≡ side row k → h ≡ k
   unfolding output side
   half-same h k p q e f g = let r = half-once normal (h .place) (k .place) (h .after) (k .after) p q e f g in λ i. record { place = r .0 i; after = r .1 i }

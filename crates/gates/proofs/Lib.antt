@@ -1,3 +1,4 @@
+pub mod MoreClauses
 pub mod Signs
 pub mod Ands
 pub mod Xors
@@ -29,11 +30,13 @@ pub mod Threes
 pub mod ClauseKinds
 pub mod Twos
 pub mod Chains
-pub mod HalfChains
 pub mod Halves
 pub mod Sides
 pub mod Mates
 pub mod IteMarks
+pub mod Sizes
+pub mod MateCounts
+pub mod SideMarks
 pub mod Pairs
 pub mod Marked
 pub mod Entries
@@ -41,4 +44,3 @@ pub mod Found
 pub mod CountBounds
 pub mod Increments
 pub mod Lenders
-pub mod LentWalk

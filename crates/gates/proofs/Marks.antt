@@ -1,10 +1,10 @@
 -- The places that are marked in a row of codes.
 -- Assumes nothing.
-use mathlib.Core.Path.{_≡_, sym, _∙_}
+use mathlib.Core.Path.{_≡_}
 use mathlib.Core.Logic.{_≢_, _↔_}
 use mathlib.Core.Bool.{false, not}
-use mathlib.Core.List.{List, [], _∷_}
-use Prim.Native.Nat.{ℕ, suc, _+_, _-_, _≤_, _<_}
+use mathlib.Core.List.{List}
+use Prim.Native.Nat.{ℕ, _+_, _-_, _≤_, _<_}
 use native.Mathlib.Omega.{arith}
 use lib.Dec.{eqb}
 use lib.ListN.{length, getD, take, drop}
@@ -12,12 +12,12 @@ use borrow.Author.Tests.{eq-eqb, ne-eqb}
 use Rattle.clauses.specs.Bytes.{front}
 use Rattle.clauses.specs.Clause.{Present, clausesIn}
 use Rattle.clauses.proofs.Lists.{eqb-not}
-use Rattle.clauses.proofs.Distinct.{Distinct, empty, more}
+use Rattle.clauses.proofs.Distinct.{Distinct}
 use Rattle.clauses.proofs.Clauses.{same-refl}
 use Rattle.gates.specs.Found.{clauseAt, Starts, LiteralAt}
 use Rattle.gates.specs.Normal.{Normal}
 use Rattle.gates.specs.Mark.{Spans, marksAnd, marksXor, andAt, xorAt}
-use Rattle.gates.proofs.Rows.{clause-at, literal-some, clause-ended, clause-fits, placed, starts-listed}
+use Rattle.gates.proofs.Rows.{literal-some, clause-ended, clause-fits, clause-distinct as once-distinct, starts-listed}
 use Rattle.gates.proofs.Normalising.{front-part}
 use Rattle.gates.proofs.StartOf.{start-only}
 
@@ -56,24 +56,9 @@ module _ (row : List ℕ) where
 
 -- The clauses of a row in normal form
 
-places-distinct : (c : List ℕ) → ((i j : ℕ) → i < length c → j < length c → getD c i 0 ≡ getD c j 0 → i ≡ j) → Distinct c
-places-distinct [] h = empty
-places-distinct (x ∷ c) h =
-    more (λ k. let p = placed c k in never (h 0 (suc (p .place)) (omega arith) (omega (arith, p .inside)) (sym (p .is))))
-    (places-distinct c (λ i j k l e. omega (arith, h (suc i) (suc j) (omega arith) (omega arith) e)))
-  where
-    never : {n : ℕ} → 0 ≡ suc n → ⊥
-    never e = omega arith
-
 module _ {row : List ℕ} (normal : Normal row) where
   pub clause-distinct : (b : ℕ) → Starts row b → Distinct (clauseAt row b)
-  clause-distinct b s =
-      places-distinct (clauseAt row b) (λ i j h k e.
-      let q : b + i ≡ b + j = normal .once b (b + i) (b + j) (at i h) (at j k) (sym (clause-at row b i h) ∙ e ∙ clause-at row b j k) in
-      omega arith)
-    where
-      at : (i : ℕ) → i < length (clauseAt row b) → LiteralAt row b (b + i)
-      at i h = record { start = s; low = omega arith; high = omega arith }
+  clause-distinct b s = once-distinct row b s (normal .once b)
 
   pub clause-present : {cs : List (List ℕ)} → ((c : List ℕ) → Present cs c ↔ Present (clausesIn row) c) → (b : ℕ) → Starts row b → Present cs (clauseAt row b)
   clause-present same b s =

@@ -15,23 +15,23 @@ use Rattle.clauses.specs.Lists.{all}
 use Rattle.clauses.specs.Listing.{present}
 use Rattle.clauses.proofs.Lists.{mem-map, mem-of-map, all-have, have-all, or-right}
 use Rattle.gates.specs.Sign.{plus, flip, isInverse}
-use Rattle.gates.specs.Listing.{signed}
+use Rattle.gates.specs.Listing.{signings}
 use Rattle.gates.specs.Mark.{masked, maskOdd}
 use Rattle.gates.proofs.Signs.{inverse-of-odd, plain-of-even, plus-false, plus-assoc}
 
 -- Masks and the enumerated signs
 
-masked-signed : (ls : List ℕ) (m : ℕ) → List·Memᴰ (masked m ls) (signed ls (maskOdd m ls))
-unfolding masked maskOdd signed
+masked-signed : (ls : List ℕ) (m : ℕ) → List·Memᴰ (masked m ls) (signings ls (maskOdd m ls))
+unfolding masked maskOdd signings
 masked-signed [] m = List·Memᴰ·head refl
 masked-signed (l ∷ ls) m = go (isInverse m) (masked-signed ls (m / 2))
   where
-    go : (b : Bool) → List·Memᴰ (masked (m / 2) ls) (signed ls (maskOdd (m / 2) ls))
-        → List·Memᴰ (flip b l ∷ masked (m / 2) ls) (signed (l ∷ ls) (plus b (maskOdd (m / 2) ls)))
-    go false ih = Memᴰ·append-left (map (λ d. negate l ∷ d) (signed ls (not (maskOdd (m / 2) ls)))) (mem-map (λ (d : List ℕ). l ∷ d) ih)
+    go : (b : Bool) → List·Memᴰ (masked (m / 2) ls) (signings ls (maskOdd (m / 2) ls))
+        → List·Memᴰ (flip b l ∷ masked (m / 2) ls) (signings (l ∷ ls) (plus b (maskOdd (m / 2) ls)))
+    go false ih = Memᴰ·append-left (map (λ d. negate l ∷ d) (signings ls (not (maskOdd (m / 2) ls)))) (mem-map (λ (d : List ℕ). l ∷ d) ih)
     go true ih =
-        Memᴰ·append-right (map (λ d. l ∷ d) (signed ls (not (maskOdd (m / 2) ls))))
-        (mem-map (λ (d : List ℕ). negate l ∷ d) (subst⁻¹ (λ (b : Bool). List·Memᴰ (masked (m / 2) ls) (signed ls b)) (Bool·not-not (maskOdd (m / 2) ls)) ih))
+        Memᴰ·append-right (map (λ d. l ∷ d) (signings ls (not (maskOdd (m / 2) ls))))
+        (mem-map (λ (d : List ℕ). negate l ∷ d) (subst⁻¹ (λ (b : Bool). List·Memᴰ (masked (m / 2) ls) (signings ls b)) (Bool·not-not (maskOdd (m / 2) ls)) ih))
 
 record Mask (ls : List ℕ) (b : Bool) (c : List ℕ) : Type 0 where
   mask : ℕ
@@ -70,19 +70,19 @@ mask-more l ls b t c h = go t
           makes = rw (e, q) (ap (λ (d : List ℕ). negate l ∷ d) (h .makes));
         }
 
-signed-mask : (ls : List ℕ) (b : Bool) (c : List ℕ) → List·Memᴰ c (signed ls b) → Mask ls b c
-unfolding signed masked maskOdd
+signed-mask : (ls : List ℕ) (b : Bool) (c : List ℕ) → List·Memᴰ c (signings ls b) → Mask ls b c
+unfolding signings masked maskOdd
 signed-mask [] false c (List·Memᴰ·head e) = record { mask = 0; below = omega arith; odd = refl; makes = sym e }
 signed-mask [] true c k = elim k [ ]
-signed-mask (l ∷ ls) b c k = go (List·Memᴰ·append-cases (map (λ d. l ∷ d) (signed ls b)) k) (signed-mask ls)
+signed-mask (l ∷ ls) b c k = go (List·Memᴰ·append-cases (map (λ d. l ∷ d) (signings ls b)) k) (signed-mask ls)
   where
-    go : List·Memᴰ c (map (λ d. l ∷ d) (signed ls b)) ⊎ List·Memᴰ c (map (λ d. negate l ∷ d) (signed ls (not b)))
-        → ((e : Bool) (d : List ℕ) → List·Memᴰ d (signed ls e) → Mask ls e d) → Mask (l ∷ ls) b c
+    go : List·Memᴰ c (map (λ d. l ∷ d) (signings ls b)) ⊎ List·Memᴰ c (map (λ d. negate l ∷ d) (signings ls (not b)))
+        → ((e : Bool) (d : List ℕ) → List·Memᴰ d (signings ls e) → Mask ls e d) → Mask (l ∷ ls) b c
     go (inl m) ih =
-        let o = mem-of-map (λ d. l ∷ d) (signed ls b) m in
+        let o = mem-of-map (λ d. l ∷ d) (signings ls b) m in
         subst⁻¹ (Mask (l ∷ ls) b) (o .is) (mask-more l ls b false (o .of) (ih b (o .of) (o .in-list)))
     go (inr m) ih =
-        let o = mem-of-map (λ d. negate l ∷ d) (signed ls (not b)) m in
+        let o = mem-of-map (λ d. negate l ∷ d) (signings ls (not b)) m in
         subst⁻¹ (Mask (l ∷ ls) b) (o .is)
         (subst (λ (e : Bool). Mask (l ∷ ls) e (negate l ∷ o .of)) (Bool·not-not b) (mask-more l ls (not b) true (o .of) (ih (not b) (o .of) (o .in-list))))
 
@@ -97,22 +97,22 @@ module _ (cs : List (List ℕ)) (c : List ℕ) where
   mask-none h = or-right (maskOdd 0 c) (ap (present cs) (masked-none c) ∙ h)
 
   -- all masks pass
-  pub masks-pass : ((m : ℕ) → m < 2 ^ length c → (maskOdd m c || present cs (masked m c)) ≡ true) → all (present cs) (signed c false) ≡ true
+  pub masks-pass : ((m : ℕ) → m < 2 ^ length c → (maskOdd m c || present cs (masked m c)) ≡ true) → all (present cs) (signings c false) ≡ true
   masks-pass h =
-      have-all (present cs) (signed c false) (λ d k.
+      have-all (present cs) (signings c false) (λ d k.
       let p = signed-mask c false d k in
       ap (present cs) (sym (p .makes)) ∙ sym (ap (λ (b : Bool). b || present cs (masked (p .mask) c)) (p .odd)) ∙ h (p .mask) (p .below))
 
   -- one does not
-  pub mask-fails : (m : ℕ) → (maskOdd m c || present cs (masked m c)) ≡ false → all (present cs) (signed c false) ≡ false
-  mask-fails m h = go (maskOdd m c) refl (present cs (masked m c)) refl (all (present cs) (signed c false)) refl
+  pub mask-fails : (m : ℕ) → (maskOdd m c || present cs (masked m c)) ≡ false → all (present cs) (signings c false) ≡ false
+  mask-fails m h = go (maskOdd m c) refl (present cs (masked m c)) refl (all (present cs) (signings c false)) refl
     where
-      go : (a : Bool) → maskOdd m c ≡ a → (b : Bool) → present cs (masked m c) ≡ b → (t : Bool) → all (present cs) (signed c false) ≡ t → t ≡ false
+      go : (a : Bool) → maskOdd m c ≡ a → (b : Bool) → present cs (masked m c) ≡ b → (t : Bool) → all (present cs) (signings c false) ≡ t → t ≡ false
       go a p b q false r = refl
       go true p b q true r = absurd (false≢true (sym h ∙ ap (λ (x : Bool). x || present cs (masked m c)) p))
       go false p true q true r = absurd (false≢true (sym h ∙ ap₂ _||_ p q))
       go false p false q true r =
-          absurd (false≢true (sym q ∙ all-have (present cs) (signed c false) r (masked m c) (subst (λ (b : Bool). List·Memᴰ (masked m c) (signed c b)) p (masked-signed c m))))
+          absurd (false≢true (sym q ∙ all-have (present cs) (signings c false) r (masked m c) (subst (λ (b : Bool). List·Memᴰ (masked m c) (signings c b)) p (masked-signed c m))))
 
 -- Writing a clause with its changed signs from place i on
 

@@ -3,7 +3,7 @@
 use mathlib.Core.Path.{_≡_, refl, sym, _∙_, ap}
 use mathlib.Core.Logic.{_≢_, _↔_}
 use mathlib.Core.Bool.{Bool, true, false, true≢false}
-use mathlib.Core.List.{List, _∷_, List·Memᴰ, List·Memᴰ·head, List·Memᴰ·tail, Memᴰ·cast, List·Memᴰ·not-nil}
+use mathlib.Core.List.{List, [], _∷_, List·Memᴰ, List·Memᴰ·head, List·Memᴰ·tail, Memᴰ·cast, List·Memᴰ·not-nil}
 use Prim.Native.Nat.{ℕ, zero, suc, _+_, _*_, _/_, _%_, _≤_, _<_}
 use native.Mathlib.Omega.{arith}
 use native.Mathlib.Decide.{ℕ-discrete}
@@ -16,9 +16,20 @@ use Rattle.clauses.proofs.Lists.{and-both, both-and, not-eqb, eqb-not, keep-has
 use Rattle.clauses.proofs.Distinct.{Distinct, empty, more}
 use Rattle.gates.specs.Gate.{IteGate}
 use Rattle.gates.specs.Normal.{Normal}
-use Rattle.gates.specs.Ites.{isPaired, Half, half, halves, allHalves, output, side, isAcross, isMate, mates}
+use Rattle.gates.specs.Ites.{isPaired, isPairedAt, Half, half, halves, allHalves, output, side, isOf, isMate, mates}
+use Rattle.gates.proofs.MoreClauses.{ite-present}
 use Rattle.gates.proofs.Halves.{even-half, odd-half, place-inside}
 use Rattle.gates.proofs.Sides.{sides-ite, ite-sides, half-side, side-half}
+
+-- Lists with an element
+
+pub some-of : {A : Type 0} (l : List A) → 0 < length l → (x : A) × List·Memᴰ x l
+some-of [] h = absurd (omega arith)
+some-of (x ∷ l) h = (x, List·Memᴰ·head refl)
+
+pub of-some : {A : Type 0} {x : A} (l : List A) → List·Memᴰ x l → 0 < length l
+of-some [] m = absurd (List·Memᴰ·not-nil m)
+of-some (y ∷ l) m = omega arith
 
 -- Halves by number
 
@@ -76,23 +87,19 @@ module _ {row : List ℕ} (normal : Normal row) where
     pub apart : net (side row m) ≢ net (side row h)
 
   pub mate-is : (h m : Half) → List·Memᴰ m (mates row h) → Mate h m
-  unfolding mates isMate isAcross
+  unfolding mates isMate isOf isPairedAt
   mate-is h m k =
       let a = keep-has _ (allHalves row) m k .1 in
-      let b = and-both (isPaired row (m .place)) _ a in
-      let c = and-both (eqb (getD row (m .place) 0) (negate (getD row (h .place) 0))) _ (b .1) in
-      let d = and-both (eqb (output row m) (output row h)) _ (c .1) in
-      record { paired = b .0; select = eqb-true _ _ (c .0); same = eqb-true _ _ (d .0); apart = not-eqb _ _ (d .1) }
+      let b = and-both (isOf row (negate (getD row (h .place) 0)) (output row h) m) _ a in
+      let c = and-both (isPairedAt row (negate (getD row (h .place) 0)) (m .place)) _ (b .0) in
+      let d = and-both (isPaired row (m .place)) _ (c .0) in
+      record { paired = d .0; select = eqb-true _ _ (d .1); same = eqb-true _ _ (c .1); apart = not-eqb _ _ (b .1) }
 
   pub is-mate : (h m : Half) → Mate h m → List·Memᴰ m (mates row h)
-  unfolding mates isMate isAcross
+  unfolding mates isMate isOf isPairedAt
   is-mate h m k =
       has-keep _ (allHalves row) (in-all row m (place-inside row (m .place) (k .paired)))
-      (both-and (k .paired) (both-and (eq-eqb _ _ (k .select)) (both-and (eq-eqb _ _ (k .same)) (eqb-not _ _ (k .apart)))))
-
-ite-present : {cs ds : List (List ℕ)} {l c t e : ℕ} → ((d : List ℕ) → Present cs d → Present ds d) → IteGate cs l c t e → IteGate ds l c t e
-ite-present f g =
-    record { apart = g .apart; then-up = f _ (g .then-up); then-down = f _ (g .then-down); else-up = f _ (g .else-up); else-down = f _ (g .else-down) }
+      (both-and (both-and (both-and (k .paired) (eq-eqb _ _ (k .select))) (eq-eqb _ _ (k .same))) (eqb-not _ _ (k .apart)))
 
 module _ {cs : List (List ℕ)} {row : List ℕ} (normal : Normal row) (same : (c : List ℕ) → Present cs c ↔ Present (clausesIn row) c) where
   -- a half and a mate make an ITE

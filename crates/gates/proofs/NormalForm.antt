@@ -7,7 +7,6 @@ use mathlib.Core.List.{List, [], _∷_, _++_, map, List·Memᴰ, List·Memᴰ·h
 use Prim.Native.Nat.{ℕ, suc, _+_, _-_, _≤_, _<_}
 use native.Mathlib.Omega.{arith}
 use native.Mathlib.Decide.{decLt, ℕ-discrete}
-use lib.Dec.{eqb}
 use lib.IntN.{ℤ}
 use lib.ListN.{length, getD, take, drop, length-map, length-append, List·getD-eq-default}
 use lib.Seq.{sets, sets-eq, take-append-seam, getD-append-add}
@@ -17,36 +16,14 @@ use Rattle.clauses.specs.Limit.{maxEntries}
 use Rattle.clauses.specs.Code.{codeOf, negate}
 use Rattle.clauses.specs.Lists.{keep}
 use Rattle.clauses.specs.Clause.{Mem, Within, Same, Tautology, Present, onto, clausesIn, clausesOf}
-use Rattle.clauses.specs.Listing.{tautology}
-use Rattle.clauses.proofs.Lists.{not-is, is-not, not-eqb, eqb-not, mem-map, mem-of-map, keep-has, has-keep}
-use Rattle.clauses.proofs.Distinct.{Distinct, empty, more, keep-distinct}
-use Rattle.clauses.proofs.Clauses.{same-refl, same-sym, same-trans, tautology-is, is-tautology}
+use Rattle.clauses.specs.Listing.{tautology, literals}
+use Rattle.clauses.proofs.Lists.{not-is, is-not, mem-map, mem-of-map, keep-has, has-keep}
+use Rattle.clauses.proofs.Distinct.{Distinct}
+use Rattle.clauses.proofs.Clauses.{same-sym, same-trans, tautology-is, is-tautology, literals-same, literals-distinct, literals-length}
 use Rattle.gates.specs.Found.{clauseAt, Starts, LiteralAt}
-use Rattle.gates.specs.Normal.{firsts, normal, rowOf, normalRow, maxCode, Normal, SmallEntries}
+use Rattle.gates.specs.Normal.{normal, rowOf, normalRow, maxCode, Normal, SmallEntries}
 use Rattle.gates.proofs.Rows.{clause-at, starts-listed, placed, mem-at, clauses-some, distinct-places}
-use Rattle.gates.proofs.Normalising.{code-bound, ended-inside, firsts-length, normal-ignored, normal-kept}
-
--- Each literal once
-
-pub firsts-same : (c : List ℕ) → Same (firsts c) c
-unfolding firsts
-firsts-same [] = same-refl []
-firsts-same (x ∷ c) = let s = firsts-same c in record { left = left s; right = λ y m. right s y m (ℕ-discrete y x) }
-  where
-    left : Same (firsts c) c → Within (x ∷ keep (λ y. not (eqb x y)) (firsts c)) (x ∷ c)
-    left s y (List·Memᴰ·head e) = List·Memᴰ·head e
-    left s y (List·Memᴰ·tail m) = List·Memᴰ·tail (s .left y (keep-has (λ z. not (eqb x z)) (firsts c) y m .0))
-
-    right : Same (firsts c) c → (y : ℕ) → Mem y (x ∷ c) → Dec (y ≡ x) → Mem y (x ∷ keep (λ z. not (eqb x z)) (firsts c))
-    right s y m (yes e) = List·Memᴰ·head e
-    right s y (List·Memᴰ·head e) (no n) = absurd (n e)
-    right s y (List·Memᴰ·tail m) (no n) = List·Memᴰ·tail (has-keep (λ z. not (eqb x z)) (firsts c) (s .right y m) (eqb-not x y (λ e. n (sym e))))
-
-pub firsts-distinct : (c : List ℕ) → Distinct (firsts c)
-unfolding firsts
-firsts-distinct [] = empty
-firsts-distinct (x ∷ c) =
-    more (λ m. not-eqb x x (keep-has (λ z. not (eqb x z)) (firsts c) x m .1) refl) (keep-distinct (λ z. not (eqb x z)) (firsts c) (firsts-distinct c))
+use Rattle.gates.proofs.Normalising.{code-bound, ended-inside, normal-ignored, normal-kept}
 
 -- The clauses of the normal form
 
@@ -55,24 +32,24 @@ pub record NormalOf (cs : List (List ℕ)) (d : List ℕ) : Type 0 where
   pub of : List ℕ
   pub listed : List·Memᴰ of cs
   pub kept : ¬ Tautology of
-  pub is : d ≡ firsts of
+  pub is : d ≡ literals of
 
 pub normal-has : (cs : List (List ℕ)) (d : List ℕ) → List·Memᴰ d (normal cs) → NormalOf cs d
 unfolding normal
 normal-has cs d m =
-    let o = mem-of-map firsts (keep (λ c. not (tautology c)) cs) m in
+    let o = mem-of-map literals (keep (λ c. not (tautology c)) cs) m in
     let k = keep-has (λ c. not (tautology c)) cs (o .of) (o .in-list) in
     record { of = o .of; listed = k .0; kept = λ t. true≢false (sym (is-tautology (o .of) t) ∙ not-is (tautology (o .of)) (k .1)); is = o .is }
 
-pub has-normal : (cs : List (List ℕ)) (c : List ℕ) → List·Memᴰ c cs → ¬ Tautology c → List·Memᴰ (firsts c) (normal cs)
+pub has-normal : (cs : List (List ℕ)) (c : List ℕ) → List·Memᴰ c cs → ¬ Tautology c → List·Memᴰ (literals c) (normal cs)
 unfolding normal
-has-normal cs c m n = mem-map firsts (has-keep (λ d. not (tautology d)) cs m (is-not (tautology c) (λ t. n (tautology-is c t))))
+has-normal cs c m n = mem-map literals (has-keep (λ d. not (tautology d)) cs m (is-not (tautology c) (λ t. n (tautology-is c t))))
 
 within-tautology : {c d : List ℕ} → Within c d → Tautology c → Tautology d
 within-tautology h t = record { lit = t .lit; plain = h (t .lit) (t .plain); inverse = h (negate (t .lit)) (t .inverse) }
 
 normal-proper : (cs : List (List ℕ)) (d : List ℕ) → List·Memᴰ d (normal cs) → ¬ Tautology d
-normal-proper cs d m t = let o = normal-has cs d m in o .kept (within-tautology (firsts-same (o .of) .left) (subst Tautology (o .is) t))
+normal-proper cs d m t = let o = normal-has cs d m in o .kept (within-tautology (literals-same (o .of) .left) (subst Tautology (o .is) t))
 
 present-normal : (cs : List (List ℕ)) (c : List ℕ) → Present cs c ↔ Present (normal cs) c
 present-normal cs c = (into, out)
@@ -80,12 +57,12 @@ present-normal cs c = (into, out)
     into : Present cs c → Present (normal cs) c
     into p =
         let m = has-normal cs (p .found) (p .listed) (p .proper) in
-        record { found = firsts (p .found); listed = m; proper = normal-proper cs (firsts (p .found)) m; same = same-trans (p .same) (same-sym (firsts-same (p .found))) }
+        record { found = literals (p .found); listed = m; proper = normal-proper cs (literals (p .found)) m; same = same-trans (p .same) (same-sym (literals-same (p .found))) }
 
     out : Present (normal cs) c → Present cs c
     out p =
         let o = normal-has cs (p .found) (p .listed) in
-        record { found = o .of; listed = o .listed; proper = o .kept; same = same-trans (subst (Same c) (o .is) (p .same)) (firsts-same (o .of)) }
+        record { found = o .of; listed = o .listed; proper = o .kept; same = same-trans (subst (Same c) (o .is) (p .same)) (literals-same (o .of)) }
 
 -- As one row
 
@@ -194,7 +171,7 @@ normal-shorter (c ∷ cs) = cases (tautology c) (ignored (normal-shorter cs)) (k
     ignored ih t = rw (normal-ignored c cs t) (omega (arith, size))
 
     kept : length (rowOf (normal cs)) ≤ length (rowOf cs) → tautology c ≡ false → length (rowOf (normal (c ∷ cs))) ≤ length (c ++ 0 ∷ rowOf cs)
-    kept ih t = rw (normal-kept c cs t) (omega (arith, size, length-append (firsts c) (0 ∷ rowOf (normal cs)), firsts-length c))
+    kept ih t = rw (normal-kept c cs t) (omega (arith, size, length-append (literals c) (0 ∷ rowOf (normal cs)), literals-length c))
 
 -- The normal form of a row of entries
 
@@ -206,7 +183,7 @@ module _ (row : List ℤ) where
       some : (c : List ℕ) → List·Memᴰ c (normal (clausesOf row)) → (x : ℕ) → Mem x c → x ≢ 0
       some c m x k =
           let o = normal-has (clausesOf row) c m in
-          literal-entry (map codeOf row) x (record { clause = o .of; listed = o .listed; holds = firsts-same (o .of) .left x (subst (Mem x) (o .is) k) }) .0
+          literal-entry (map codeOf row) x (record { clause = o .of; listed = o .listed; holds = literals-same (o .of) .left x (subst (Mem x) (o .is) k) }) .0
 
   -- the same clauses are present
   pub normal-present : (c : List ℕ) → Present (clausesOf row) c ↔ Present (clausesIn (normalRow row)) c
@@ -233,7 +210,7 @@ module _ (row : List ℤ) where
       at x (inl e) = omega arith
       at x (inr h) =
           let o = normal-has (clausesOf row) (h .clause) (h .listed) in
-          let k = literal-entry (map codeOf row) x (record { clause = o .of; listed = o .listed; holds = firsts-same (o .of) .left x (subst (Mem x) (o .is) (h .holds)) }) .1 in
+          let k = literal-entry (map codeOf row) x (record { clause = o .of; listed = o .listed; holds = literals-same (o .of) .left x (subst (Mem x) (o .is) (h .holds)) }) .1 in
           let p = placed (map codeOf row) k in
           omega (arith, p .is, code-bound row s (p .place))
 
@@ -245,7 +222,7 @@ module _ (row : List ℤ) where
   normal-listed b s = normal-has (clausesOf row) (clauseAt (normalRow row) b) (rw normal-clauses at (starts-listed (normalRow row) b s))
 
   pub normal-distinct : (b : ℕ) → Starts (normalRow row) b → Distinct (clauseAt (normalRow row) b)
-  normal-distinct b s = let o = normal-listed b s in rw (o .is) (firsts-distinct (o .of))
+  normal-distinct b s = let o = normal-listed b s in rw (o .is) (literals-distinct (o .of))
 
   normal-once : (b p q : ℕ) → LiteralAt (normalRow row) b p → LiteralAt (normalRow row) b q → getD (normalRow row) p 0 ≡ getD (normalRow row) q 0 → p ≡ q
   normal-once b p q h k e =

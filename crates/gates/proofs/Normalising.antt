@@ -4,7 +4,7 @@ use mathlib.Core.Path.{_≡_, refl, sym, _∙_, ap}
 use mathlib.Core.Logic.{_≢_, _⊎_, inl, inr}
 use mathlib.Core.Bool.{Bool, true, false, not, false≢true}
 use mathlib.Core.List.{List, [], _∷_, _++_, map, append-nil, append-assoc, List·Memᴰ·head, List·Memᴰ·tail, List·Memᴰ·append-cases, Memᴰ·append-left, Memᴰ·append-right, Memᴰ·cast, List·Memᴰ·eq-of-singleton, List·Memᴰ·not-nil}
-use Prim.Native.Nat.{ℕ, suc, _+_, _-_, _*_, _≤_, _<_}
+use Prim.Native.Nat.{ℕ, _+_, _-_, _*_, _≤_, _<_}
 use native.Mathlib.Numerals.{add-one}
 use native.Mathlib.Omega.{arith}
 use native.Mathlib.Decide.{decLt, ℕ-discrete}
@@ -18,13 +18,14 @@ use Rattle.clauses.specs.Bytes.{front}
 use Rattle.clauses.specs.Code.{codeOf, negate}
 use Rattle.clauses.specs.Lists.{keep}
 use Rattle.clauses.specs.Clause.{Mem, Tautology, clausesIn, clausesOf}
-use Rattle.clauses.specs.Listing.{mem, tautology}
-use Rattle.clauses.proofs.Lists.{keep-length}
+use Rattle.clauses.specs.Listing.{mem, tautology, literals}
+use Rattle.clauses.proofs.Lists.{keep-append}
 use Rattle.clauses.proofs.Codes.{negate-negate, negate-other}
-use Rattle.clauses.proofs.Clauses.{mem-in, in-mem, tautology-is, is-tautology}
+use Rattle.clauses.proofs.Clauses.{mem-in, in-mem, tautology-is, is-tautology, literals-length}
+use Rattle.clauses.proofs.Writes.{sets-append}
 use Rattle.clauses.proofs.Signed.{code-entry, code-small}
 use Rattle.gates.specs.Found.{clauseAt}
-use Rattle.gates.specs.Normal.{firsts, normal, rowOf, normalRow, SmallEntries, Older}
+use Rattle.gates.specs.Normal.{normal, rowOf, normalRow, SmallEntries, Older}
 use Rattle.gates.proofs.Rows.{clause-fits, literal-some, clauses-from, clauses-end}
 
 -- Parts of a row
@@ -194,11 +195,6 @@ module _ {l : List ℕ} {b e size stamp i : ℕ} {seen : List ℕ} (k : Looking 
 
 -- The literals of a clause, each once
 
-keep-append : (f : ℕ → Bool) (a c : List ℕ) → keep f (a ++ c) ≡ keep f a ++ keep f c
-unfolding keep
-keep-append f [] c = refl
-keep-append f (x ∷ a) c = cases (f x) (λ t. rw (t, keep) (ap (λ (d : List ℕ). x ∷ d) (keep-append f a c))) (λ t. rw (t, keep) (keep-append f a c))
-
 keep-out : (x y : ℕ) → x ≡ y → keep (λ z. not (eqb x z)) (y ∷ []) ≡ []
 unfolding keep
 keep-out x y e = rw (eq-eqb x y e, keep)
@@ -207,27 +203,23 @@ keep-in : (x y : ℕ) → x ≢ y → keep (λ z. not (eqb x z)) (y ∷ []) ≡ 
 unfolding keep
 keep-in x y n = rw (ne-eqb x y n, keep)
 
-firsts-new : (w : List ℕ) (x : ℕ) → ¬ Mem x w → firsts (w ++ (x ∷ [])) ≡ firsts w ++ (x ∷ [])
-unfolding firsts keep
-firsts-new [] x n = refl
-firsts-new (y ∷ w) x n =
-    ap (λ (c : List ℕ). y ∷ keep (λ z. not (eqb y z)) c) (firsts-new w x (λ m. n (List·Memᴰ·tail m)))
-    ∙ ap (λ (c : List ℕ). y ∷ c) (keep-append (λ z. not (eqb y z)) (firsts w) (x ∷ []) ∙ ap (λ (c : List ℕ). keep (λ z. not (eqb y z)) (firsts w) ++ c) (keep-in y x (λ e. n (List·Memᴰ·head (sym e)))))
+literals-new : (w : List ℕ) (x : ℕ) → ¬ Mem x w → literals (w ++ (x ∷ [])) ≡ literals w ++ (x ∷ [])
+unfolding literals keep
+literals-new [] x n = refl
+literals-new (y ∷ w) x n =
+    ap (λ (c : List ℕ). y ∷ keep (λ z. not (eqb y z)) c) (literals-new w x (λ m. n (List·Memᴰ·tail m)))
+    ∙ ap (λ (c : List ℕ). y ∷ c) (keep-append (λ z. not (eqb y z)) (literals w) (x ∷ []) ∙ ap (λ (c : List ℕ). keep (λ z. not (eqb y z)) (literals w) ++ c) (keep-in y x (λ e. n (List·Memᴰ·head (sym e)))))
 
-firsts-seen : (w : List ℕ) (x : ℕ) → Mem x w → firsts (w ++ (x ∷ [])) ≡ firsts w
-unfolding firsts
-firsts-seen [] x m = absurd (List·Memᴰ·not-nil m)
-firsts-seen (y ∷ w) x m = cases (mem x w) (λ t. ap (λ (c : List ℕ). y ∷ keep (λ z. not (eqb y z)) c) (firsts-seen w x (mem-in x w t))) (λ t. here t m)
+literals-seen : (w : List ℕ) (x : ℕ) → Mem x w → literals (w ++ (x ∷ [])) ≡ literals w
+unfolding literals
+literals-seen [] x m = absurd (List·Memᴰ·not-nil m)
+literals-seen (y ∷ w) x m = cases (mem x w) (λ t. ap (λ (c : List ℕ). y ∷ keep (λ z. not (eqb y z)) c) (literals-seen w x (mem-in x w t))) (λ t. here t m)
   where
-    here : mem x w ≡ false → Mem x (y ∷ w) → y ∷ keep (λ z. not (eqb y z)) (firsts (w ++ (x ∷ []))) ≡ y ∷ keep (λ z. not (eqb y z)) (firsts w)
+    here : mem x w ≡ false → Mem x (y ∷ w) → y ∷ keep (λ z. not (eqb y z)) (literals (w ++ (x ∷ []))) ≡ y ∷ keep (λ z. not (eqb y z)) (literals w)
     here t (List·Memᴰ·head e) =
-        ap (λ (c : List ℕ). y ∷ keep (λ z. not (eqb y z)) c) (firsts-new w x (λ k. false≢true (sym t ∙ in-mem w k)))
-        ∙ ap (λ (c : List ℕ). y ∷ c) (keep-append (λ z. not (eqb y z)) (firsts w) (x ∷ []) ∙ ap (λ (c : List ℕ). keep (λ z. not (eqb y z)) (firsts w) ++ c) (keep-out y x (sym e)) ∙ append-nil (keep (λ z. not (eqb y z)) (firsts w)))
+        ap (λ (c : List ℕ). y ∷ keep (λ z. not (eqb y z)) c) (literals-new w x (λ k. false≢true (sym t ∙ in-mem w k)))
+        ∙ ap (λ (c : List ℕ). y ∷ c) (keep-append (λ z. not (eqb y z)) (literals w) (x ∷ []) ∙ ap (λ (c : List ℕ). keep (λ z. not (eqb y z)) (literals w) ++ c) (keep-out y x (sym e)) ∙ append-nil (keep (λ z. not (eqb y z)) (literals w)))
     here t (List·Memᴰ·tail k) = absurd (false≢true (sym t ∙ in-mem w k))
-
-pub sets-append : (l : List ℕ) (n : ℕ) (vs ws : List ℕ) → sets l n (vs ++ ws) ≡ sets (sets l n vs) (n + length vs) ws
-sets-append l n [] ws = ap (λ (k : ℕ). sets l k ws) (omega arith)
-sets-append l n (v ∷ vs) ws = sets-append (set l n v) (suc n) vs ws ∙ ap (λ (k : ℕ). sets (sets (set l n v) (suc n) vs) k ws) (omega arith)
 
 -- the literals of part b up to i are walked and written
 pub record Putting (l : List ℕ) (b e n size stamp : ℕ) (codes₀ : List ℕ) (m i : ℕ) (codes seen : List ℕ) : Type 0 where
@@ -236,11 +228,11 @@ pub record Putting (l : List ℕ) (b e n size stamp : ℕ) (codes₀ : List ℕ)
   pub behind : m ≤ i
   pub room : length seen ≡ size
   pub marks : Stamped seen stamp (slice b i l)
-  pub count : m ≡ n + length (firsts (slice b i l))
-  pub written : codes ≡ sets codes₀ n (firsts (slice b i l))
+  pub count : m ≡ n + length (literals (slice b i l))
+  pub written : codes ≡ sets codes₀ n (literals (slice b i l))
 
 pub putting-none : {l : List ℕ} {b e n size stamp : ℕ} {codes₀ seen : List ℕ} → b ≤ e → n ≤ b → length seen ≡ size → Older seen stamp → Putting l b e n size stamp codes₀ n b codes₀ seen
-unfolding firsts
+unfolding literals
 putting-none {l} {b} {stamp = stamp} {seen = seen} h p r o =
     record {
       low = omega arith;
@@ -254,27 +246,27 @@ putting-none {l} {b} {stamp = stamp} {seen = seen} h p r o =
 
 module _ {l : List ℕ} {b e n size stamp : ℕ} {codes₀ : List ℕ} {m i : ℕ} {codes seen : List ℕ} (k : Putting l b e n size stamp codes₀ m i codes seen) where
   pub putting-length : length codes ≡ length codes₀
-  putting-length = ap length (k .written) ∙ length-sets codes₀ n (firsts (slice b i l))
+  putting-length = ap length (k .written) ∙ length-sets codes₀ n (literals (slice b i l))
 
   module _ (inside : i < e) (fits : e ≤ length l) {x : ℕ} (at : x ≡ getD l i 0) where
     pub putting-new : x < size → getD seen x 0 ≢ stamp → Putting l b e n size stamp codes₀ (m + 1) (i + 1) (set codes m x) (set seen x stamp)
     putting-new h d =
         let part = part-more l b i x at (k .low) (omega arith) in
-        let f : firsts (slice b (i + 1) l) ≡ firsts (slice b i l) ++ (x ∷ []) = ap firsts part ∙ firsts-new (slice b i l) x (λ j. d (k .marks .has x j)) in
+        let f : literals (slice b (i + 1) l) ≡ literals (slice b i l) ++ (x ∷ []) = ap literals part ∙ literals-new (slice b i l) x (λ j. d (k .marks .has x j)) in
         record {
           low = omega (arith, k .low);
           high = omega arith;
           behind = omega (arith, k .behind);
           room = length-set seen x stamp ∙ k .room;
           marks = rw part (stamped-more (k .marks) x (omega (arith, k .room)));
-          count = rw (f, length-append (firsts (slice b i l)) (x ∷ [])) (omega (arith, k .count));
-          written = rw (f, sets-append codes₀ n (firsts (slice b i l)) (x ∷ []), ← k .written, ← k .count);
+          count = rw (f, length-append (literals (slice b i l)) (x ∷ [])) (omega (arith, k .count));
+          written = rw (f, sets-append codes₀ n (literals (slice b i l)) (x ∷ []), ← k .written, ← k .count);
         }
 
     pub putting-seen : getD seen x 0 ≡ stamp → Putting l b e n size stamp codes₀ m (i + 1) codes seen
     putting-seen d =
         let part = part-more l b i x at (k .low) (omega arith) in
-        let f : firsts (slice b (i + 1) l) ≡ firsts (slice b i l) = ap firsts part ∙ firsts-seen (slice b i l) x (k .marks .marked x d) in
+        let f : literals (slice b (i + 1) l) ≡ literals (slice b i l) = ap literals part ∙ literals-seen (slice b i l) x (k .marks .marked x d) in
         record {
           low = omega (arith, k .low);
           high = omega arith;
@@ -289,24 +281,19 @@ module _ {l : List ℕ} {b e n size stamp : ℕ} {codes₀ : List ℕ} {m i : �
     whole : i ≡ e
     whole = omega (arith, k .high)
 
-    pub put-count : m + 1 ≡ n + length (firsts (slice b e l)) + 1
+    pub put-count : m + 1 ≡ n + length (literals (slice b e l)) + 1
     put-count = rw (← whole) (omega (arith, k .count))
 
-    pub put-written : set codes m 0 ≡ sets codes₀ n (firsts (slice b e l) ++ 0 ∷ [])
-    put-written = rw (← whole, sets-append codes₀ n (firsts (slice b i l)) (0 ∷ []), ← k .written, ← k .count)
+    pub put-written : set codes m 0 ≡ sets codes₀ n (literals (slice b e l) ++ 0 ∷ [])
+    put-written = rw (← whole, sets-append codes₀ n (literals (slice b i l)) (0 ∷ []), ← k .written, ← k .count)
 
 -- The clauses of a row
-
-pub firsts-length : (c : List ℕ) → length (firsts c) ≤ length c
-unfolding firsts
-firsts-length [] = omega arith
-firsts-length (x ∷ c) = omega (arith, keep-length (λ y. not (eqb x y)) (firsts c), firsts-length c)
 
 pub normal-ignored : (c : List ℕ) (cs : List (List ℕ)) → tautology c ≡ true → normal (c ∷ cs) ≡ normal cs
 unfolding normal keep
 normal-ignored c cs t = rw (t, keep)
 
-pub normal-kept : (c : List ℕ) (cs : List (List ℕ)) → tautology c ≡ false → normal (c ∷ cs) ≡ firsts c ∷ normal cs
+pub normal-kept : (c : List ℕ) (cs : List (List ℕ)) → tautology c ≡ false → normal (c ∷ cs) ≡ literals c ∷ normal cs
 unfolding normal keep
 normal-kept c cs t = rw (t, keep)
 
@@ -353,22 +340,22 @@ module _ {row : List ℤ} {size : ℕ} {codes₀ : List ℕ} {n b : ℕ} {codes 
           }
 
       pub normalising-kept : {n′ : ℕ} {codes′ seen′ : List ℕ} → length seen′ ≡ size → Older seen′ (2 * b + 1 + 1 + 1) → tautology (slice b e (map codeOf row)) ≡ false
-          → n′ ≡ n + length (firsts (slice b e (map codeOf row))) + 1 → codes′ ≡ sets codes n (firsts (slice b e (map codeOf row)) ++ 0 ∷ [])
+          → n′ ≡ n + length (literals (slice b e (map codeOf row))) + 1 → codes′ ≡ sets codes n (literals (slice b e (map codeOf row)) ++ 0 ∷ [])
           → Normalising row size codes₀ n′ (e + 1) codes′ seen′
       unfolding rowOf
       normalising-kept {n′} r o t p q =
           let c = clauseAt (map codeOf row) b in
           let ds = normal (clausesIn (drop (e + 1) (map codeOf row))) in
-          let s : rowOf (normal (clausesIn (drop b (map codeOf row)))) ≡ (firsts c ++ 0 ∷ []) ++ rowOf ds = ap rowOf (ap normal rest ∙ normal-kept c (clausesIn (drop (e + 1) (map codeOf row))) (rw clause at t)) ∙ sym (append-assoc (firsts c) (0 ∷ []) (rowOf ds)) in
-          let u : n′ ≡ n + length (firsts c ++ 0 ∷ []) = p ∙ rw (clause, length-append (firsts c) (0 ∷ [])) (omega arith) in
+          let s : rowOf (normal (clausesIn (drop b (map codeOf row)))) ≡ (literals c ++ 0 ∷ []) ++ rowOf ds = ap rowOf (ap normal rest ∙ normal-kept c (clausesIn (drop (e + 1) (map codeOf row))) (rw clause at t)) ∙ sym (append-assoc (literals c) (0 ∷ []) (rowOf ds)) in
+          let u : n′ ≡ n + length (literals c ++ 0 ∷ []) = p ∙ rw (clause, length-append (literals c) (0 ∷ [])) (omega arith) in
           record {
-            behind = omega (arith, k .behind, p, ap (λ (d : List ℕ). length (firsts d)) clause, firsts-length c);
+            behind = omega (arith, k .behind, p, ap (λ (d : List ℕ). length (literals d)) clause, literals-length c);
             inside = omega arith;
             room = r;
             older = λ x. omega (arith, o x);
-            space = ap length q ∙ length-sets codes n (firsts (slice b e (map codeOf row)) ++ 0 ∷ []) ∙ k .space;
-            count = k .count ∙ rw (s, u, length-append (firsts c ++ 0 ∷ []) (rowOf ds)) (omega arith);
-            written = k .written ∙ rw (s, q, clause, u) (sets-append codes n (firsts c ++ 0 ∷ []) (rowOf ds));
+            space = ap length q ∙ length-sets codes n (literals (slice b e (map codeOf row)) ++ 0 ∷ []) ∙ k .space;
+            count = k .count ∙ rw (s, u, length-append (literals c ++ 0 ∷ []) (rowOf ds)) (omega arith);
+            written = k .written ∙ rw (s, q, clause, u) (sets-append codes n (literals c ++ 0 ∷ []) (rowOf ds));
           }
 
   module _ (h : length row ≤ b) where

@@ -1,4 +1,4 @@
--- Laws of the search: placeOf gives the first clause with the same literals, and whether there is one says whether it is present.
+-- Laws of the search: firstPlace gives the first clause with the same literals, and whether there is one says whether it is present.
 -- Assumes nothing.
 use mathlib.Core.Path.{_≡_, refl, sym, _∙_, ap, subst⁻¹}
 use mathlib.Core.Bool.{true, false, true≢false}
@@ -14,7 +14,7 @@ use Rattle.clauses.proofs.Clauses.{same-is, is-same, present-is, is-present}
 use Rattle.gates.specs.declared.search.Place.{Place}
 use Rattle.gates.specs.declared.search.Place.the-variants.{At, Nothing}
 use Rattle.gates.specs.Found.{clauseAt, Starts}
-use Rattle.gates.specs.Search.{placeIn, placeOf, Proper}
+use Rattle.gates.specs.Search.{placeIn, firstPlace, Proper}
 use Rattle.gates.proofs.Rows.{starts-first, starts-next, starts-apart, clauses-from, clauses-end, listed-starts, starts-listed}
 
 module _ (row q : List ℕ) where
@@ -79,12 +79,12 @@ module _ (row q : List ℕ) where
       cases (sameSet q c) (λ t. let g = rw (t, placeIn) at h in let z : _≡_ {A = ℕ} 0 1 = cc in absurd (omega arith))
       (λ t. nothing-from cs (b + length (clauseAt row b) + 1) (passed-next k (differ b (rw (m .1) t))) (m .2) (rw (m .1) (rw (t, placeIn) at h)) p s)
 
-  pub place-first : {b : ℕ} → placeOf row q ≡ At b → First row q b
-  unfolding placeOf
+  pub place-first : {b : ℕ} → firstPlace row q ≡ At b → First row q b
+  unfolding firstPlace
   place-first {b} e = at-from (clausesIn row) 0 passed-first refl b e
 
-  pub place-nothing : placeOf row q ≡ Nothing → (p : ℕ) → Starts row p → ¬ Same q (clauseAt row p)
-  unfolding placeOf
+  pub place-nothing : firstPlace row q ≡ Nothing → (p : ℕ) → Starts row p → ¬ Same q (clauseAt row p)
+  unfolding firstPlace
   place-nothing e = nothing-from (clausesIn row) 0 passed-first refl e
 
   pub first-only : {a b : ℕ} → First row q a → First row q b → a ≡ b
@@ -95,29 +95,29 @@ module _ (row q : List ℕ) where
       go (no l) (yes m) = absurd (f .least b m (g .start) (g .same))
       go (no l) (no m) = omega arith
 
-  pub first-place : {b : ℕ} → First row q b → placeOf row q ≡ At b
-  first-place {b} f = go (placeOf row q) refl
+  pub first-place : {b : ℕ} → First row q b → firstPlace row q ≡ At b
+  first-place {b} f = go (firstPlace row q) refl
     where
-      go : (r : Place) → placeOf row q ≡ r → r ≡ At b
+      go : (r : Place) → firstPlace row q ≡ r → r ≡ At b
       go (At a) e = ap At (first-only (place-first e) f)
       go Nothing e = absurd (place-nothing e b (f .start) (f .same))
 
-  pub nothing-place : ((p : ℕ) → Starts row p → ¬ Same q (clauseAt row p)) → placeOf row q ≡ Nothing
-  nothing-place n = go (placeOf row q) refl
+  pub nothing-place : ((p : ℕ) → Starts row p → ¬ Same q (clauseAt row p)) → firstPlace row q ≡ Nothing
+  nothing-place n = go (firstPlace row q) refl
     where
-      go : (r : Place) → placeOf row q ≡ r → r ≡ Nothing
+      go : (r : Place) → firstPlace row q ≡ r → r ≡ Nothing
       go (At a) e = let f = place-first e in absurd (n a (f .start) (f .same))
       go Nothing e = refl
 
   -- a clause is found exactly where it is present
 
-  pub place-present : Proper row → {b : ℕ} → placeOf row q ≡ At b → present (clausesIn row) q ≡ true
+  pub place-present : Proper row → {b : ℕ} → firstPlace row q ≡ At b → present (clausesIn row) q ≡ true
   place-present h {b} e =
       let f = place-first e in
       let m = starts-listed row b (f .start) in
       is-present (clausesIn row) q (record { found = clauseAt row b; listed = m; proper = h (clauseAt row b) m; same = f .same })
 
-  pub nothing-present : placeOf row q ≡ Nothing → present (clausesIn row) q ≡ false
+  pub nothing-present : firstPlace row q ≡ Nothing → present (clausesIn row) q ≡ false
   nothing-present e = cases (present (clausesIn row) q) (λ t. absurd (never (present-is (clausesIn row) q t))) (λ t. t)
     where
       never : Present (clausesIn row) q → ⊥
@@ -133,10 +133,10 @@ pub data Ended (row q : List ℕ) (p : ℕ) : Type 0 where
   there : Passed row q p → p < length row → sameSet q (clauseAt row p) ≡ true → Ended row q p
 
 module _ {row q : List ℕ} {p : ℕ} where
-  pub ended-at : Ended row q p → p < length row → At p ≡ placeOf row q
+  pub ended-at : Ended row q p → p < length row → At p ≡ firstPlace row q
   ended-at (nowhere k l e) h = absurd (omega arith)
   ended-at (there k l e) h = sym (first-place row q (record { start = k .start l; same = same-is q (clauseAt row p) e; least = k .none }))
 
-  pub ended-nothing : Ended row q p → length row ≤ p → Nothing ≡ placeOf row q
+  pub ended-nothing : Ended row q p → length row ≤ p → Nothing ≡ firstPlace row q
   ended-nothing (nowhere k l e) h = sym (nothing-place row q (λ i s. k .none i (omega (arith, s .inside)) s))
   ended-nothing (there k l e) h = absurd (omega arith)

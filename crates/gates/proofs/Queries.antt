@@ -15,7 +15,7 @@ use Rattle.clauses.specs.Listing.{within, sameSet}
 use Rattle.clauses.proofs.Lists.{mem-of-map}
 use Rattle.clauses.proofs.Distinct.{Distinct, empty, more}
 use Rattle.clauses.proofs.Codes.{same-net}
-use Rattle.clauses.proofs.Clauses.{within-is, same-is, is-same, literals-distinct, same-refl}
+use Rattle.clauses.proofs.Clauses.{within-is, same-is, is-same, literals-distinct, literals-once, same-refl}
 use Rattle.clauses.proofs.Picks.{picked, pick-same, pick-length, in-rest, perm-of-same, perm-length}
 use Rattle.gates.specs.Sign.{isInverse}
 use Rattle.gates.specs.Found.{clauseAt, Starts}
@@ -24,7 +24,6 @@ use Rattle.gates.specs.Search.{Once}
 use Rattle.gates.specs.Mark.{masked}
 use Rattle.gates.proofs.Signs.{net-flip}
 use Rattle.gates.proofs.Rows.{literal-some, clause-ended, starts-listed}
-use Rattle.gates.proofs.Buckets.{literals-once}
 use Rattle.gates.proofs.Marks.{clause-distinct}
 
 pub once-distinct : {q : List ℕ} → Once q → Distinct q

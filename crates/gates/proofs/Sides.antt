@@ -16,7 +16,7 @@ use Rattle.clauses.proofs.Clauses.{present-is, is-present, same-refl, same-sym,
 use Rattle.clauses.proofs.Picks.{perm-of-same, perm-length}
 use Rattle.gates.specs.Gate.{Apart, IteGate}
 use Rattle.gates.specs.Found.{clauseAt, around, Starts, LiteralAt}
-use Rattle.gates.specs.Search.{placeOf, Once}
+use Rattle.gates.specs.Search.{firstPlace, Once}
 use Rattle.gates.specs.Normal.{Normal}
 use Rattle.gates.specs.Mark.{isFirst, startOf}
 use Rattle.gates.specs.Ites.{inThree, other, isPaired}
@@ -279,9 +279,9 @@ module _ {row : List ℕ} (normal : Normal row) where
     pub side : other row place (not after) ≡ z
 
   found : (q : List ℕ) → Present (clausesIn row) q → (b : ℕ) × First row q b
-  found q h = go (placeOf row q) refl
+  found q h = go (firstPlace row q) refl
     where
-      go : (r : Place) → placeOf row q ≡ r → (b : ℕ) × First row q b
+      go : (r : Place) → firstPlace row q ≡ r → (b : ℕ) × First row q b
       go (At b) e = (b, place-first row q e)
       go Nothing e = absurd (true≢false (sym (is-present (clausesIn row) q h) ∙ nothing-present row q e))
 

@@ -6,15 +6,13 @@ use mathlib.Core.Bool.{true, false}
 use mathlib.Core.List.{List, [], _∷_}
 use Prim.Native.Nat.{ℕ, _+_, _≤_, _<_}
 use native.Mathlib.Numerals.{add-one}
-use lib.ListN.{length, getD, drop, drop-of-length-le, List·getD-eq-default}
+use lib.ListN.{length, getD, drop, drop-of-length-le}
 use lib.Seq.{drop-cons}
-use borrow.Author.Tests.{eq-eqb, ne-eqb, lt-ltb, le-ltb}
+use borrow.Author.Tests.{eq-eqb, ne-eqb}
 use Rattle.clauses.specs.Lists.{any, all}
 use Rattle.clauses.specs.Listing.{mem, within, sameSet}
 use Rattle.gates.specs.Found.{clauseAt}
-use Rattle.gates.specs.declared.walk.Step.{Step}
-use Rattle.gates.specs.Walk.{stepAt}
-use Rattle.gates.proofs.Rows.{literal-within, clause-stops, clause-goes-on}
+use Rattle.gates.proofs.Rows.{clause-stops, clause-goes-on}
 
 mem-none : (x : ℕ) → mem x [] ≡ false
 unfolding mem any
@@ -72,21 +70,3 @@ module _ (row : List ℕ) (i x : ℕ) where
 
   pub holds-on : getD row i 0 ≢ 0 → getD row i 0 ≢ x → mem x (clauseAt row i) ≡ mem x (clauseAt row (i + 1))
   holds-on n m = ap (mem x) (clause-goes-on row i n) ∙ mem-later x (getD row i 0) (clauseAt row (i + 1)) m
-
--- each case of a step
-module _ (row : List ℕ) (i : ℕ) where
-  abbrev pub stopped : Step
-  stopped = record { literal = 0; at = i }
-
-  abbrev pub gone-on : Step
-  gone-on = record { literal = getD row i 0; at = i + 1 }
-
-  pub step-end : length row ≤ i → stopped ≡ stepAt row i
-  step-end h = rw (List·getD-eq-default row 0 h, le-ltb i (length row) h) refl
-
-  pub step-on : i < length row → gone-on ≡ stepAt row i
-  step-on h = rw (lt-ltb i (length row) h) refl
-
-  -- at a literal
-  pub step-place : getD row i 0 ≢ 0 → stepAt row i .at ≡ i + 1
-  step-place n = rw (lt-ltb i (length row) (literal-within row i n)) refl

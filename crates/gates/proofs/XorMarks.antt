@@ -20,6 +20,7 @@ use Rattle.gates.specs.Counted.{SameWith, Plain, IsXorCount}
 use Rattle.gates.specs.Found.{clauseAt, Starts, isXor}
 use Rattle.gates.specs.Normal.{Normal}
 use Rattle.gates.specs.Mark.{isFirst, isCandidate, isUpright, givesXor, marksXor, startOf, xorAt, howMany}
+use Rattle.gates.proofs.MoreClauses.{xor-present}
 use Rattle.gates.proofs.Signs.{plus-false, plus-comm, net-flip, isInverse-flip, plain-net, plain-flip, perm-parity, none-odd, none-inverted}
 use Rattle.gates.proofs.Xors.{apart-distinct, apart-clause, apart-inverted, xor-same, xor-resign}
 use Rattle.gates.proofs.StartOf.{start-is, end-start, start-only}
@@ -28,9 +29,6 @@ use Rattle.gates.proofs.HowMany.{many-counted}
 use Rattle.gates.proofs.XorsListed.{signed-all, all-signed}
 use Rattle.gates.proofs.Uprights.{Upright, upright-is, is-upright, upright-same, Turned, turned, xor-turned, upright-only}
 use Rattle.gates.proofs.Marks.{xor-end, clause-distinct, clause-present}
-
-pub xor-present : {cs ds : List (List ℕ)} {ls : List ℕ} {odd : Bool} → ((c : List ℕ) → Present cs c → Present ds c) → XorGate cs ls odd → XorGate ds ls odd
-xor-present {ls = ls} to g = record { three = g .three; five = g .five; apart = g .apart; all = λ f e. to (inverted f ls) (g .all f e) }
 
 -- the literals as plain nets, with the sum that they then have
 abbrev summed : List ℕ → List ℕ × Bool

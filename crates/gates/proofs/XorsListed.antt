@@ -21,7 +21,7 @@ use Rattle.clauses.proofs.Picks.{Perm, perm-of-same}
 use Rattle.clauses.proofs.Choices.{Sub, sub-within, sub-distinct, sub-choose, choose-sub, choose-distinct}
 use Rattle.gates.specs.Sign.{plus, flip, isInverse, parity, inverted}
 use Rattle.gates.specs.Gate.{Apart, XorGate}
-use Rattle.gates.specs.Listing.{signed, xorClauses}
+use Rattle.gates.specs.Listing.{signings, xorClauses}
 use Rattle.gates.specs.Count.{netsOf, Xor, xors}
 use Rattle.gates.proofs.Signs.{plain-of-even, isInverse-negate, none-odd, none-inverted, change, change-same, change-parity, change-inverted}
 use Rattle.gates.proofs.Xors.{apart-distinct, apart-clause, xor-same}
@@ -29,17 +29,17 @@ use Rattle.gates.proofs.Xors.{apart-distinct, apart-clause, xor-same}
 -- Signs
 
 -- every choice of signs is listed
-inverted-signed : (f : ℕ → Bool) (ls : List ℕ) → List·Memᴰ (inverted f ls) (signed ls (parity f ls))
-unfolding signed
+inverted-signed : (f : ℕ → Bool) (ls : List ℕ) → List·Memᴰ (inverted f ls) (signings ls (parity f ls))
+unfolding signings
 inverted-signed f [] = in-first
 inverted-signed f (l ∷ ls) = go (f l) refl (inverted-signed f ls)
   where
-    go : (b : Bool) → f l ≡ b → List·Memᴰ (inverted f ls) (signed ls (parity f ls)) → List·Memᴰ (inverted f (l ∷ ls)) (signed (l ∷ ls) (parity f (l ∷ ls)))
-    go false e ih = rw e (Memᴰ·append-left (map (λ d. negate l ∷ d) (signed ls (not (parity f ls)))) (mem-map (λ (d : List ℕ). l ∷ d) ih))
+    go : (b : Bool) → f l ≡ b → List·Memᴰ (inverted f ls) (signings ls (parity f ls)) → List·Memᴰ (inverted f (l ∷ ls)) (signings (l ∷ ls) (parity f (l ∷ ls)))
+    go false e ih = rw e (Memᴰ·append-left (map (λ d. negate l ∷ d) (signings ls (not (parity f ls)))) (mem-map (λ (d : List ℕ). l ∷ d) ih))
     go true e ih =
         rw e
-        (Memᴰ·append-right (map (λ d. l ∷ d) (signed ls (not (parity f ls))))
-        (mem-map (λ (d : List ℕ). negate l ∷ d) (subst⁻¹ (λ (b : Bool). List·Memᴰ (inverted f ls) (signed ls b)) (Bool·not-not (parity f ls)) ih)))
+        (Memᴰ·append-right (map (λ d. l ∷ d) (signings ls (not (parity f ls))))
+        (mem-map (λ (d : List ℕ). negate l ∷ d) (subst⁻¹ (λ (b : Bool). List·Memᴰ (inverted f ls) (signings ls b)) (Bool·not-not (parity f ls)) ih)))
 
 -- and what is listed is a choice of signs, where no literal stands twice
 record Choice (ls : List ℕ) (b : Bool) (c : List ℕ) : Type 0 where
@@ -55,32 +55,32 @@ chosen l ls c b d n h =
       makes = ap₂ (λ (y : ℕ) (t : List ℕ). y ∷ t) (ap (λ (s : Bool). flip s l) (sym (change-same l b (h .signs)))) (h .makes ∙ sym (change-inverted l b (h .signs) ls n));
     }
 
-signed-choice : (ls : List ℕ) → Distinct ls → (b : Bool) (c : List ℕ) → List·Memᴰ c (signed ls b) → Choice ls b c
-unfolding signed
+signed-choice : (ls : List ℕ) → Distinct ls → (b : Bool) (c : List ℕ) → List·Memᴰ c (signings ls b) → Choice ls b c
+unfolding signings
 signed-choice [] n false c (List·Memᴰ·head e) = record { signs = λ x. false; count = refl; makes = e }
 signed-choice [] n true c k = elim k [ ]
-signed-choice (l ∷ ls) (more n r) b c k = go (List·Memᴰ·append-cases (map (λ d. l ∷ d) (signed ls b)) k) (signed-choice ls r)
+signed-choice (l ∷ ls) (more n r) b c k = go (List·Memᴰ·append-cases (map (λ d. l ∷ d) (signings ls b)) k) (signed-choice ls r)
   where
-    go : List·Memᴰ c (map (λ d. l ∷ d) (signed ls b)) ⊎ List·Memᴰ c (map (λ d. negate l ∷ d) (signed ls (not b)))
-        → ((e : Bool) (d : List ℕ) → List·Memᴰ d (signed ls e) → Choice ls e d) → Choice (l ∷ ls) b c
+    go : List·Memᴰ c (map (λ d. l ∷ d) (signings ls b)) ⊎ List·Memᴰ c (map (λ d. negate l ∷ d) (signings ls (not b)))
+        → ((e : Bool) (d : List ℕ) → List·Memᴰ d (signings ls e) → Choice ls e d) → Choice (l ∷ ls) b c
     go (inl m) ih =
-        let o = mem-of-map (λ d. l ∷ d) (signed ls b) m in
+        let o = mem-of-map (λ d. l ∷ d) (signings ls b) m in
         subst⁻¹ (Choice (l ∷ ls) b) (o .is) (chosen l ls (o .of) false b n (ih b (o .of) (o .in-list)))
     go (inr m) ih =
-        let o = mem-of-map (λ d. negate l ∷ d) (signed ls (not b)) m in
+        let o = mem-of-map (λ d. negate l ∷ d) (signings ls (not b)) m in
         subst⁻¹ (Choice (l ∷ ls) b) (o .is)
         (subst (λ (e : Bool). Choice (l ∷ ls) e (negate l ∷ o .of)) (Bool·not-not b) (chosen l ls (o .of) true (not b) n (ih (not b) (o .of) (o .in-list))))
 
 -- an XOR is found where all its clauses pass the test
-pub signed-all : (cs : List (List ℕ)) (ls : List ℕ) (odd : Bool) → all (present cs) (signed ls (not odd)) ≡ true
+pub signed-all : (cs : List (List ℕ)) (ls : List ℕ) (odd : Bool) → all (present cs) (signings ls (not odd)) ≡ true
     → (signs : ℕ → Bool) → parity signs ls ≡ not odd → Present cs (inverted signs ls)
 signed-all cs ls odd h f e =
     present-is cs (inverted f ls)
-    (all-have (present cs) (signed ls (not odd)) h (inverted f ls) (subst (λ (b : Bool). List·Memᴰ (inverted f ls) (signed ls b)) e (inverted-signed f ls)))
+    (all-have (present cs) (signings ls (not odd)) h (inverted f ls) (subst (λ (b : Bool). List·Memᴰ (inverted f ls) (signings ls b)) e (inverted-signed f ls)))
 
-pub all-signed : {cs : List (List ℕ)} {ls : List ℕ} {odd : Bool} → XorGate cs ls odd → all (present cs) (signed ls (not odd)) ≡ true
+pub all-signed : {cs : List (List ℕ)} {ls : List ℕ} {odd : Bool} → XorGate cs ls odd → all (present cs) (signings ls (not odd)) ≡ true
 all-signed {cs} {ls} {odd} g =
-    have-all (present cs) (signed ls (not odd)) (λ c m.
+    have-all (present cs) (signings ls (not odd)) (λ c m.
     let h = signed-choice ls (apart-distinct (g .apart)) (not odd) c m in
     is-present cs c (subst⁻¹ (Present cs) (h .makes) (g .all (h .signs) (h .count))))
 
@@ -124,7 +124,7 @@ xor-entry {cs} {ls} g =
     gate : XorGate cs (k .it) true
     gate = xor-same (k .it) g (k .same) distinct
 
-    tests : (leb 3 (length (k .it)) && (leb (length (k .it)) 5 && all (present cs) (signed (k .it) false))) ≡ true
+    tests : (leb 3 (length (k .it)) && (leb (length (k .it)) 5 && all (present cs) (signings (k .it) false))) ≡ true
     tests = both-and (le-leb 3 (length (k .it)) (gate .three)) (both-and (le-leb (length (k .it)) 5 (gate .five)) (all-signed gate))
 
 -- By their nets
@@ -170,7 +170,7 @@ plain-apart v ws s = apart-clause ws (sub-distinct s (nets-distinct v)) proper
     proper t = true≢false (ap not (sym (plain (t .lit) (t .plain))) ∙ sym (isInverse-negate (t .lit)) ∙ plain (negate (t .lit)) (t .inverse))
 
 xor-is-of : (v : ℕ) (cs : List (List ℕ)) (k : ℕ) (ws : List ℕ) (odd : Bool) → Mem k (3 ∷ 4 ∷ 5 ∷ []) → List·Memᴰ ws (choose k (netsOf v))
-    → all (present cs) (signed ws (not odd)) ≡ true → IsXor v cs (record { nets = ws; odd = odd })
+    → all (present cs) (signings ws (not odd)) ≡ true → IsXor v cs (record { nets = ws; odd = odd })
 xor-is-of v cs k ws odd i m h =
     let c = choose-sub k (netsOf v) ws m in
     let r = size-bounds k i in
@@ -186,7 +186,7 @@ xor-is-of v cs k ws odd i m h =
 
 -- the list in parts
 abbrev by-odd : List (List ℕ) → List ℕ → Bool → List Xor
-by-odd cs ws odd = only (all (present cs) (signed ws (not odd))) (record { nets = ws; odd = odd } ∷ [])
+by-odd cs ws odd = only (all (present cs) (signings ws (not odd))) (record { nets = ws; odd = odd } ∷ [])
 
 abbrev by-nets : List (List ℕ) → List ℕ → List Xor
 by-nets cs ws = each (true ∷ false ∷ []) (by-odd cs ws)
@@ -201,7 +201,7 @@ module _ (v : ℕ) (cs : List (List ℕ)) where
       let s = each-has (3 ∷ 4 ∷ 5 ∷ []) (by-size v cs) m in
       let t = each-has (choose (s .from-it) (netsOf v)) (by-nets cs) (s .gives) in
       let u = each-has (true ∷ false ∷ []) (by-odd cs (t .from-it)) (t .gives) in
-      let w = only-has (all (present cs) (signed (t .from-it) (not (u .from-it)))) (u .gives) in
+      let w = only-has (all (present cs) (signings (t .from-it) (not (u .from-it)))) (u .gives) in
       subst⁻¹ (IsXor v cs) (List·Memᴰ·eq-of-singleton (w .1)) (xor-is-of v cs (s .from-it) (t .from-it) (u .from-it) (s .listed) (t .listed) (w .0))
 
   pub xor-listed : (ws : List ℕ) (odd : Bool) → Sub ws (netsOf v) → XorGate cs ws odd → List·Memᴰ (record { nets = ws; odd = odd }) (xors v cs)

@@ -7,7 +7,7 @@ use lib.ListN.{length}
 use Rattle.clauses.specs.Lists.{all, keep, each, only, from, choose}
 use Rattle.clauses.specs.Listing.{present}
 use Rattle.gates.specs.Sign.{isInverse}
-use Rattle.gates.specs.Listing.{ands, signed, Ite, ites}
+use Rattle.gates.specs.Listing.{ands, signings, Ite, ites}
 
 -- the n of IsAndCount cs n
 unfoldable pub andCount : List (List ℕ) → ℕ
@@ -28,7 +28,7 @@ xors v cs =
     each (3 ∷ 4 ∷ 5 ∷ []) (λ k.
     each (choose k (netsOf v)) (λ ws.
     each (true ∷ false ∷ []) (λ odd.
-    only (all (present cs) (signed ws (not odd))) (record { nets = ws; odd = odd } ∷ []))))
+    only (all (present cs) (signings ws (not odd))) (record { nets = ws; odd = odd } ∷ []))))
 
 -- the n of IsXorCount cs n
 unfoldable pub xorCount : ℕ → List (List ℕ) → ℕ

@@ -59,7 +59,7 @@ isPair mark = eqb mark 2
 -- The row and the marks hold the clauses and the gates of the list cs.
 pub record Found (cs : List (List ℕ)) (row marks : List ℕ) : Type 0 where
   pub size : length marks ≡ length row
-  -- every row of clauses ends with a 0
+  -- every clause is ended by a 0
   pub ended : (b : ℕ) → Starts row b → b + length (clauseAt row b) < length row
   -- the clauses, each literal once
   pub clause-is : (b : ℕ) → Starts row b → Present cs (clauseAt row b)
@@ -74,7 +74,7 @@ pub record Found (cs : List (List ℕ)) (row marks : List ℕ) : Type 0 where
   pub and-is : (b p : ℕ) → LiteralAt row b p → isAnd (getD marks p 0) ≡ true → AndGate cs (clauseAt row b) (getD row p 0)
   pub and-found : (c : List ℕ) (l : ℕ) → AndGate cs c l
       → (b : ℕ) × (p : ℕ) × LiteralAt row b p × (isAnd (getD marks p 0) ≡ true) × Same c (clauseAt row b) × (getD row p 0 ≡ l)
-  -- the XORs, each once, whatever signs its literals are written with
+  -- the XORs, with whatever signs their literals are written
   pub xor-is : (b : ℕ) → Starts row b → isXor (getD marks (b + length (clauseAt row b)) 0) ≡ true → XorGate cs (clauseAt row b) true
   pub xor-found : (ls : List ℕ) (odd : Bool) → XorGate cs ls odd
       → (b : ℕ) × (f : ℕ → Bool) × Starts row b × (isXor (getD marks (b + length (clauseAt row b)) 0) ≡ true)

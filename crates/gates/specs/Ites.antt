@@ -13,6 +13,7 @@ use Rattle.clauses.specs.Lists.{keep, each}
 use Rattle.clauses.specs.Listing.{present}
 use Rattle.gates.specs.Sign.{isInverse}
 use Rattle.gates.specs.Found.{clauseAt, around}
+use Rattle.gates.specs.Normal.{maxCode}
 use Rattle.gates.specs.Mark.{isFirst, startOf}
 use Rattle.gates.specs.Chains.{ChainedIn}
 
@@ -32,6 +33,10 @@ other row p true = getD row (around (startOf row p) (around (startOf row p) p)) 
 unfoldable pub isPaired : List ℕ → ℕ → Bool
 isPaired row p =
     inThree row p && (isFirst row (startOf row p) && present (clausesIn row) (getD row p 0 ∷ negate (other row p false) ∷ negate (other row p true) ∷ []))
+
+-- .. and the literal at p is x
+unfoldable pub isPairedAt : List ℕ → ℕ → ℕ → Bool
+isPairedAt row x p = isPaired row p && eqb (getD row p 0) x
 
 -- Halves
 
@@ -64,13 +69,17 @@ output row h = other row (h .place) (h .after)
 unfoldable pub side : List ℕ → Half → ℕ
 side row h = other row (h .place) (not (h .after))
 
--- the half has the output whose inverse is y, and a side of another net than z
-unfoldable pub isAcross : List ℕ → ℕ → ℕ → Half → Bool
-isAcross row y z h = eqb (output row h) y && not (eqb (net (side row h)) (net z))
+-- the half stands at a paired place of literal x, and has the output whose inverse is y
+unfoldable pub isOf : List ℕ → ℕ → ℕ → Half → Bool
+isOf row x y h = isPairedAt row x (h .place) && eqb (output row h) y
 
--- .. and it stands at a paired place of literal x
+-- such a half with side w
+unfoldable pub isHalf : List ℕ → ℕ → ℕ → ℕ → Half → Bool
+isHalf row x y w h = isOf row x y h && eqb (side row h) w
+
+-- such a half with a side of another net than z
 unfoldable pub isMate : List ℕ → ℕ → ℕ → ℕ → Half → Bool
-isMate row x y z h = isPaired row (h .place) && (eqb (getD row (h .place) 0) x && isAcross row y z h)
+isMate row x y z h = isOf row x y h && not (eqb (net (side row h)) (net z))
 
 -- the halves that make an ITE with a half: the selects are inverses, the output is the same, and the sides are of different nets
 unfoldable pub mates : List ℕ → Half → List Half
@@ -101,27 +110,30 @@ isPlainHalf row h = isPaired row (h .place) && (isInverse (getD row (h .place) 0
 unfoldable pub pairsOf : List ℕ → List Half → List (Half × Half)
 pairsOf row hs = each (keep (isPlainHalf row) hs) (λ h. map (λ m. (h, m)) (mates row h))
 
--- Chains of the halves at paired places, by literal and output
+-- the marks of the sides are added at the places that pass the test, and their pairs of halves counted from start on
+pub record SidesAt (row : List ℕ) (test : ℕ → Bool) (before after : List ℕ) (start total : ℕ) : Type 0 where
+  pub size : length after ≡ length before
+  pub at : (p : ℕ) → getD after p 0 ≡ getD before p 0 + cond (test p) (sideMark row p) 0
+  pub count : total ≡ start + length (pairsOf row (keep (λ h. test (h .place)) (allHalves row)))
 
--- the bucket, of m, of the halves with literal x and the output whose inverse is y
-unfoldable pub halfBucket : ℕ → ℕ → ℕ → ℕ
-halfBucket m x y = (x * 67 + y) % m
+-- Rows of the count
 
--- half j stands at a paired place and is in bucket b of m
-pub record HalfIn (row : List ℕ) (m j b : ℕ) : Type 0 where
-  pub paired : isPaired row (half j .place) ≡ true
-  pub bucket : halfBucket m (getD row (half j .place) 0) (output row (half j)) ≡ b
+-- the paired places below k are chained by their literals
+abbrev pub PlacesChained : List ℕ → ℕ → List ℕ → List ℕ → Type 0
+PlacesChained row = ChainedIn (λ p x. isPairedAt row x p ≡ true)
 
--- the entry of a half that is in no chain
-abbrev pub unchained : ℕ
-unchained = 4294967295
-
--- the halves of the numbers below k: those at paired places are chained by m buckets, the others are in no chain
-pub record HalvesChained (row : List ℕ) (m k : ℕ) (heads chain : List ℕ) : Type 0 where
-  pub chains : ChainedIn (HalfIn row m) k heads chain
-  pub unpaired : (j : ℕ) → j < k → isPaired row (half j .place) ≡ false → getD chain j 0 ≡ unchained
-
--- there is room for the chains: a bucket, and an entry for each half
+-- there is room for the chains: an entry for each literal and its inverse, not more than 32 bits can number, and one for each place
 pub record Room (row : List ℕ) (heads chain : ℕ) : Type 0 where
-  pub some : 0 < heads
-  pub numbers : 2 * length row ≤ chain
+  pub literals : maxCode < heads
+  pub inverses : heads % 2 ≡ 0
+  pub fits : heads < 4294967296
+  pub places : length row ≤ chain
+
+-- how many halves of the numbers below k have literal x and the output whose inverse is y
+unfoldable pub sizeOf : List ℕ → ℕ → ℕ → ℕ → ℕ
+sizeOf row x y k = length (keep (isOf row x y) (halves k))
+
+-- the halves with literal x, counted by their outputs; where there are some, `sides` has the side of one
+pub record Sized (row : List ℕ) (x : ℕ) (sizes sides : List ℕ) : Type 0 where
+  pub size : (y : ℕ) → getD sizes y 0 ≡ sizeOf row x y (2 * length row)
+  pub some : (y : ℕ) → 0 < getD sizes y 0 → 0 < length (keep (isHalf row x y (getD sides y 0)) (allHalves row))

@@ -6,7 +6,6 @@ pub mod Listing
 pub mod Count
 pub mod Found
 pub mod Search
-pub mod Walk
 pub mod Normal
 pub mod Index
 pub mod Mark

@@ -23,14 +23,14 @@ ands cs =
     (record { l = p .0; inputs = map negate (p .1) } ∷ [])))
 
 -- the literals with some inverted, an odd number of them where the bit is set
-unfoldable pub signed : List ℕ → Bool → List (List ℕ)
-signed [] false = [] ∷ []
-signed [] true = []
-signed (l ∷ ls) b = map (λ c. l ∷ c) (signed ls b) ++ map (λ c. negate l ∷ c) (signed ls (not b))
+unfoldable pub signings : List ℕ → Bool → List (List ℕ)
+signings [] false = [] ∷ []
+signings [] true = []
+signings (l ∷ ls) b = map (λ c. l ∷ c) (signings ls b) ++ map (λ c. negate l ∷ c) (signings ls (not b))
 
 -- the clauses of the XORs: all that differ from one in an even number of signs are present, so that the sum of its literals is odd
 unfoldable pub xorClauses : List (List ℕ) → List (List ℕ)
-xorClauses cs = keep (λ c. leb 3 (length c) && (leb (length c) 5 && all (present cs) (signed c false))) (clauseSets cs)
+xorClauses cs = keep (λ c. leb 3 (length c) && (leb (length c) 5 && all (present cs) (signings c false))) (clauseSets cs)
 
 -- l = c ? t : e
 pub record Ite : Type 0 where

@@ -12,9 +12,9 @@ use Rattle.clauses.specs.Clause.{clausesIn}
 use Rattle.clauses.specs.Lists.{all, keep, from}
 use Rattle.clauses.specs.Listing.{present}
 use Rattle.gates.specs.Sign.{plus, flip, isInverse}
-use Rattle.gates.specs.Listing.{signed}
+use Rattle.gates.specs.Listing.{signings}
 use Rattle.gates.specs.Found.{clauseAt, Starts, LiteralAt}
-use Rattle.gates.specs.Search.{placeOf}
+use Rattle.gates.specs.Search.{firstPlace}
 use Rattle.gates.specs.Normal.{maxCode}
 use Rattle.gates.specs.declared.search.Place.{Place}
 use Rattle.gates.specs.declared.search.Place.the-variants.{At, Nothing}
@@ -32,7 +32,7 @@ isAt b Nothing = false
 
 -- 'two clauses with equal sets are one': the clause that starts at b is the first of its set
 unfoldable pub isFirst : List ℕ → ℕ → Bool
-isFirst row b = isAt b (placeOf row (clauseAt row b))
+isFirst row b = isAt b (firstPlace row (clauseAt row b))
 
 -- .. and it has three or more literals, as the clauses of ANDs and XORs have
 unfoldable pub isCandidate : List ℕ → ℕ → Bool
@@ -74,7 +74,7 @@ isUpright c = all (λ x. not (isInverse x) || isLowest c x) c
 
 -- the clause c stands for an XOR, if it has three literals or more
 unfoldable pub givesXor : List (List ℕ) → List ℕ → Bool
-givesXor cs c = leb (length c) 5 && (isUpright c && all (present cs) (signed c false))
+givesXor cs c = leb (length c) 5 && (isUpright c && all (present cs) (signings c false))
 
 -- the end of the clause that starts at b is marked
 unfoldable pub marksXor : List ℕ → ℕ → Bool

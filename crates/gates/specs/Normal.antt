@@ -4,24 +4,18 @@ use mathlib.Core.Path.{_≡_}
 use mathlib.Core.Bool.{not}
 use mathlib.Core.List.{List, [], _∷_, _++_, map}
 use Prim.Native.Nat.{ℕ, _+_, _*_, _≤_, _<_}
-use lib.Dec.{eqb}
 use lib.IntN.{ℤ, pos, natAbs}
 use lib.ListN.{length, getD}
 use Rattle.clauses.specs.Limit.{maxNets, maxEntries}
 use Rattle.clauses.specs.Lists.{keep}
 use Rattle.clauses.specs.Clause.{clausesOf}
-use Rattle.clauses.specs.Listing.{tautology}
+use Rattle.clauses.specs.Listing.{tautology, literals}
 use Rattle.gates.specs.Found.{clauseAt, Starts, LiteralAt}
 use Rattle.gates.specs.Search.{Proper}
 
--- 'a repeated literal counts once': each where it first stands
-unfoldable pub firsts : List ℕ → List ℕ
-firsts [] = []
-firsts (x ∷ c) = x ∷ keep (λ y. not (eqb x y)) (firsts c)
-
--- 'a clause that holds a net and its inverse is ignored'
+-- 'a clause that holds a net and its inverse is ignored', and of the others 'a repeated literal counts once'
 unfoldable pub normal : List (List ℕ) → List (List ℕ)
-normal cs = map firsts (keep (λ c. not (tautology c)) cs)
+normal cs = map literals (keep (λ c. not (tautology c)) cs)
 
 -- 'clauses one after another, each ended by 0'
 unfoldable pub rowOf : List (List ℕ) → List ℕ

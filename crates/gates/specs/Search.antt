@@ -17,8 +17,8 @@ placeIn q [] b = Nothing
 placeIn q (c ∷ cs) b = cond (sameSet q c) (At b) (placeIn q cs (b + length c + 1))
 
 -- .. in a row of codes
-unfoldable pub placeOf : List ℕ → List ℕ → Place
-placeOf row q = placeIn q (clausesIn row) 0
+unfoldable pub firstPlace : List ℕ → List ℕ → Place
+firstPlace row q = placeIn q (clausesIn row) 0
 
 -- no clause of the row is one that is ignored
 abbrev pub Proper : List ℕ → Type 0

@@ -15,8 +15,8 @@ ghost use Rattle.gates.specs.Index.{Indexed};
 ghost use Rattle.gates.specs.Mark.{Spans, isCandidate, Twos, givesAnd};
 use crate::fill::fill;
 use crate::literal::inverse;
+use crate::place::clause_end;
 use crate::search::is_present;
-use crate::walk::clause_end;
 
 // Whether the clause (not l, not k) is present, if k is another literal than l.
 fn is_input(codes: &[u32], index: &[u32], l: u32, k: u32) -> bool

@@ -26,10 +26,8 @@ ghost use Rattle.gates.specs.Normal.{Normal, normalRow, maxCode, SmallEn
 ghost use Rattle.gates.specs.Index.{Indexed};
 ghost use Rattle.gates.specs.Ites.{Room};
 
-// Entries of the index of clauses, and of the chains of halves.
+// Entries of the index of clauses.
 const INDEX: usize = BUCKETS + MAX_ENTRIES;
-
-const HALVES: usize = 2 * MAX_ENTRIES;
 
 // Marks the gates of a row of codes, whatever the marks held, and counts them.
 fn mark_gates(
@@ -39,6 +37,8 @@ fn mark_gates(
     twos: &mut [u32],
     heads: &mut [u32],
     chain: &mut [u32],
+    sizes: &mut [u32],
+    sides: &mut [u32],
     marks: &mut [u8],
 ) -> Counts
     requires { ⌜ Indexed (now codes) (now index) ⌝ }
@@ -46,6 +46,8 @@ fn mark_gates(
     requires { ⌜ Room (now codes) (length (now heads)) (length (now chain)) ⌝ }
     requires { ⌜ (length (now codes) ≤ length (now kinds)) × (maxCode < length (now twos)) ⌝ }
     requires { ⌜ now heads ≡ replicate (length (now heads)) 0 ⌝ }
+    requires { ⌜ (maxCode < length (now sizes)) × (maxCode < length (now sides)) ⌝ }
+    requires { ⌜ ((y : ℕ) → getD (now sizes) y 0 ≡ 0) ⌝ }
     requires { ⌜ length (now marks) ≡ length (now codes) ⌝ }
     ensures { λ r. ⌜ ((cs : List (List ℕ)) → ((c : List ℕ) → Present cs c ↔ Present (clausesIn (now (codes .entry))) c)
         → Found cs (now (codes .entry)) (now (marks .exit)) × AreCounts cs (r .ands) (r .xors) (r .ites)) ⌝ }
@@ -59,7 +61,17 @@ fn mark_gates(
     list_kinds(codes, index, kinds);
     list_twos(codes, twos);
     let found = mark_clauses(codes, index, kinds, twos, marks, none);
-    let all = mark_ites(codes, index, kinds, heads, chain, marks, found);
+    let all = mark_ites(
+        codes,
+        index,
+        kinds,
+        heads,
+        chain,
+        sizes,
+        sides,
+        marks,
+        found,
+    );
     mark_pairs(codes, index, marks);
     all
 }
@@ -71,7 +83,7 @@ pub struct Finding {
 }
 
 // Writes the normal form of a row at the start of the codes, and the marks of its gates at the start of the marks. Besides what
-// is lent it uses 100,354 numbers and 16,384 bytes of its own, 417,800 bytes.
+// is lent it uses 57,352 numbers and 16,384 bytes of its own, 245,792 bytes.
 pub fn find_gates(row: &[i32], codes: &mut [u32], marks: &mut [u8]) -> Finding
     requires { ⌜ length (now row) ≤ maxEntries ⌝ }
     requires { ⌜ length (now row) ≤ length (now codes) ⌝ }
@@ -87,8 +99,10 @@ pub fn find_gates(row: &[i32], codes: &mut [u32], marks: &mut [u8]) -> Finding
     let mut index = [0u32; INDEX];
     let mut kinds = [0u8; MAX_ENTRIES];
     let mut seen = [0u32; CODES];
-    let mut heads = [0u32; HALVES];
-    let mut chain = [0u32; HALVES];
+    let mut heads = [0u32; CODES];
+    let mut chain = [0u32; MAX_ENTRIES];
+    let mut sizes = [0u32; CODES];
+    let mut sides = [0u32; CODES];
     let n = prepare(row, codes, &mut index, &mut seen);
     let counts = mark_gates(
         &codes[..n],
@@ -97,6 +111,8 @@ pub fn find_gates(row: &[i32], codes: &mut [u32], marks: &mut [u8]) -> Finding
         &mut seen,
         &mut heads,
         &mut chain,
+        &mut sizes,
+        &mut sides,
         &mut marks[..n],
     );
     Finding {

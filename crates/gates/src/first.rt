@@ -4,20 +4,20 @@ ghost use mathlib.Core.Path.{_≡_};
 ghost use Prim.Native.Nat.{_≤_};
 ghost use lib.ListN.{length};
 ghost use Rattle.gates.specs.Found.{Starts};
-ghost use Rattle.gates.specs.Search.{placeOf, Once};
+ghost use Rattle.gates.specs.Search.{firstPlace, Once};
 ghost use Rattle.gates.specs.Index.{Indexed};
 ghost use Rattle.gates.specs.Normal.{Normal};
 ghost use Rattle.gates.specs.Mark.{Spans, isAt, isCandidate, kindOf, Kinds};
+use crate::place::clause_end;
 use crate::search::Place;
 use crate::search::find;
-use crate::walk::clause_end;
 
 // Whether the first clause with the literals of q starts at b.
 fn is_found_at(codes: &[u32], index: &[u32], q: &[u32], b: usize) -> bool
     requires { ⌜ Indexed (now codes) (now index) ⌝ }
     requires { ⌜ Normal (now codes) ⌝ }
     requires { ⌜ Once (now q) ⌝ }
-    ensures { λ r. ⌜ r ≡ isAt b (placeOf (now (codes .entry)) (now (q .entry))) ⌝ }
+    ensures { λ r. ⌜ r ≡ isAt b (firstPlace (now (codes .entry)) (now (q .entry))) ⌝ }
 {
     match find(codes, index, q) {
         Place::At(a) => a == b,

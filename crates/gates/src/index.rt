@@ -1,8 +1,7 @@
 // The clause index of a row of codes.
 
 use crate::fill::fill;
-use crate::walk::Walk;
-use crate::walk::next;
+use crate::place::literal;
 ghost use mathlib.Core.Path.{_≡_};
 ghost use Prim.Native.Nat.{_+_, _%_, _<_, _≤_};
 ghost use lib.ListN.{length};
@@ -50,13 +49,14 @@ fn bucket_at(codes: &[u32], b: usize) -> usize
     ensures { λ r. ⌜ r ≡ bucketOf (clauseAt (now (codes .entry)) b) ⌝ }
 {
     let mut s = 0;
-    let mut walk = Walk { row: codes, at: b };
+    let mut i = b;
     loop {
-        let x = next(&mut walk);
+        let x = literal(codes, i);
         if x == 0 {
             return s;
         }
         s = add_share(s, x);
+        i += 1;
     }
 }
 

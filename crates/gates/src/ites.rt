@@ -1,25 +1,23 @@
 // The sides of ITEs: which places of a row of codes are marked as such, and how many ITEs there are.
 
 ghost use mathlib.Core.Path.{_≡_};
-ghost use mathlib.Core.Bool.{true, not, cond, _&&_};
-ghost use Prim.Native.Nat.{ℕ, _+_, _*_, _/_, _≤_, _<_};
-ghost use lib.Dec.{eqb, ltb};
-ghost use lib.ListN.{length, getD, replicate};
-ghost use Rattle.clauses.specs.Code.{net};
+ghost use mathlib.Core.Logic.{_≢_};
+ghost use mathlib.Core.Bool.{true, cond, _&&_};
+ghost use Prim.Native.Nat.{ℕ, _+_, _*_, _≤_, _<_};
+ghost use lib.Dec.{ltb};
+ghost use lib.ListN.{length, getD, set, replicate};
+ghost use Rattle.clauses.specs.Code.{negate, net};
 ghost use Rattle.clauses.specs.Lists.{keep};
 ghost use Rattle.gates.specs.Sign.{isInverse};
 ghost use Rattle.gates.specs.Found.{around};
 ghost use Rattle.gates.specs.Normal.{Normal, maxCode};
 ghost use Rattle.gates.specs.Index.{Indexed};
 ghost use Rattle.gates.specs.Mark.{isFirst, Kinds, startOf};
-ghost use Rattle.gates.specs.Ites.{inThree, isPaired, halvesAt, half, allHalves, output, isMate, sideMark, Sided, pairsOf, halfBucket, HalvesChained, Room};
+ghost use Rattle.gates.specs.Ites.{inThree, isPaired, isPairedAt, halvesAt, allHalves, isHalf, isMate, sizeOf, sideMark, Sided, SidesAt, pairsOf, PlacesChained, Room, Sized};
 use crate::chain::link;
 use crate::counts::Counts;
 use crate::literal::inverse;
 use crate::search::is_present;
-
-// The entry of a half that is in no chain.
-const UNCHAINED: u32 = 4294967295;
 
 // The place after p in its clause of three literals, the first one coming after the last.
 fn next_place(codes: &[u32], p: usize) -> usize
@@ -76,128 +74,140 @@ fn is_paired(codes: &[u32], index: &[u32], kinds: &[u8], b: usize, p: usize) -> 
     is_present(codes, index, &companion)
 }
 
-// The bucket, of m, of the halves with literal x and the output whose inverse is y.
-fn half_bucket(m: usize, x: u32, y: u32) -> usize
-    requires { ⌜ 0 < m ⌝ }
-    requires { ⌜ (x ≤ maxCode) × (y ≤ maxCode) ⌝ }
-    ensures { λ r. ⌜ r ≡ halfBucket m x y ⌝ }
-    ensures { λ r. ⌜ r < m ⌝ }
-{
-    ((x * 67 + y) as usize) % m
-}
-
-// Puts half j, with literal x and the output whose inverse is y, into its chain.
-fn link_half(codes: &[u32], j: usize, x: u32, y: u32, heads: &mut [u32], chain: &mut [u32])
-    requires { ⌜ Normal (now codes) ⌝ }
-    requires { ⌜ Room (now codes) (length (now heads)) (length (now chain)) ⌝ }
-    requires { ⌜ HalvesChained (now codes) (length (now heads)) j (now heads) (now chain) ⌝ }
-    requires { ⌜ (j < 2 * length (now codes)) × (isPaired (now codes) (j / 2) ≡ true) ⌝ }
-    requires { ⌜ (x ≡ getD (now codes) (j / 2) 0) × (y ≡ output (now codes) (half j)) ⌝ }
-    ensures { λ _. ⌜ HalvesChained (now (codes .entry)) (length (now (heads .entry))) (j + 1) (now (heads .exit)) (now (chain .exit)) ⌝ }
-{
-    let b = half_bucket(heads.len(), x, y);
-    link(b, j, heads, chain);
-}
-
-// Puts the halves at place p into their chains if it is paired; b is where its clause starts.
-fn link_place(
-    codes: &[u32],
-    index: &[u32],
-    kinds: &[u8],
-    b: usize,
-    p: usize,
-    heads: &mut [u32],
-    chain: &mut [u32],
-)
-    requires { ⌜ Indexed (now codes) (now index) ⌝ }
-    requires { ⌜ Normal (now codes) ⌝ }
-    requires { ⌜ Kinds (now codes) (now kinds) (length (now codes)) ⌝ }
-    requires { ⌜ (p < length (now codes)) × (b ≡ startOf (now codes) p) ⌝ }
-    requires { ⌜ Room (now codes) (length (now heads)) (length (now chain)) ⌝ }
-    requires { ⌜ HalvesChained (now codes) (length (now heads)) (2 * p) (now heads) (now chain) ⌝ }
-    ensures { λ _. ⌜ HalvesChained (now (codes .entry)) (length (now (heads .entry))) (2 * (p + 1)) (now (heads .exit)) (now (chain .exit)) ⌝ }
-{
-    if is_paired(codes, index, kinds, b, p) {
-        let next = next_place(codes, p);
-        let after = next_place(codes, next);
-        let x = codes[p];
-        let y = codes[next];
-        let z = codes[after];
-        link_half(codes, 2 * p, x, y, heads, chain);
-        link_half(codes, 2 * p + 1, x, z, heads, chain);
-    } else {
-        chain[2 * p] = UNCHAINED;
-        chain[2 * p + 1] = UNCHAINED;
-    }
-}
-
-// The chains of the halves at paired places, from heads that are all 0.
+// The chains of the paired places by their literals, from heads that are all 0.
 fn chain_paired(codes: &[u32], index: &[u32], kinds: &[u8], heads: &mut [u32], chain: &mut [u32])
     requires { ⌜ Indexed (now codes) (now index) ⌝ }
     requires { ⌜ Normal (now codes) ⌝ }
     requires { ⌜ Kinds (now codes) (now kinds) (length (now codes)) ⌝ }
     requires { ⌜ Room (now codes) (length (now heads)) (length (now chain)) ⌝ }
     requires { ⌜ now heads ≡ replicate (length (now heads)) 0 ⌝ }
-    ensures { λ _. ⌜ HalvesChained (now (codes .entry)) (length (now (heads .entry))) (2 * length (now (codes .entry))) (now (heads .exit)) (now (chain .exit)) ⌝ }
+    ensures { λ _. ⌜ PlacesChained (now (codes .entry)) (length (now (codes .entry))) (now (heads .exit)) (now (chain .exit)) ⌝ }
 {
     let mut b = 0;
     let mut p = 0;
     while p < codes.len() {
-        link_place(codes, index, kinds, b, p, heads, chain);
+        if is_paired(codes, index, kinds, b, p) {
+            link(codes[p] as usize, p, heads, chain);
+        }
         b = next_start(codes, b, p);
         p += 1;
     }
 }
 
-// 1 if v is y and w is of another net than z, else 0.
-fn one_across(v: u32, w: u32, y: u32, z: u32) -> u32
-    ensures { λ r. ⌜ r ≡ cond (eqb v y && not (eqb (net w) (net z))) 1 0 ⌝ }
-    ensures { λ r. ⌜ r ≤ 1 ⌝ }
+// Counts one half more with the output whose inverse is y; z is its side.
+fn add_half(sizes: &mut [u32], sides: &mut [u32], y: u32, z: u32)
+    requires { ⌜ (y < length (now sizes)) × (y < length (now sides)) ⌝ }
+    requires { ⌜ getD (now sizes) y 0 < 4294967295 ⌝ }
+    ensures { λ _. ⌜ now (sizes .exit) ≡ set (now (sizes .entry)) y (getD (now (sizes .entry)) y 0 + 1) ⌝ }
+    ensures { λ _. ⌜ now (sides .exit) ≡ set (now (sides .entry)) y z ⌝ }
 {
-    if v == y {
-        if w / 2 != z / 2 {
-            return 1;
-        }
-    }
-    0
+    let i = y as usize;
+    sizes[i] = sizes[i] + 1;
+    sides[i] = z;
 }
 
-// 1 if half j, at a paired place, has literal x, the output whose inverse is y, and a side of another net than z, else 0.
-fn one_mate(codes: &[u32], j: usize, x: u32, y: u32, z: u32) -> u32
-    requires { ⌜ isPaired (now codes) (j / 2) ≡ true ⌝ }
-    ensures { λ r. ⌜ r ≡ cond (isMate (now (codes .entry)) x y z (half j)) 1 0 ⌝ }
-    ensures { λ r. ⌜ r ≤ 1 ⌝ }
-{
-    let p = j / 2;
-    if codes[p] != x {
-        return 0;
-    }
-    let next = next_place(codes, p);
-    let after = next_place(codes, next);
-    if j % 2 == 1 {
-        return one_across(codes[after], codes[next], y, z);
-    }
-    one_across(codes[next], codes[after], y, z)
-}
-
-// How many halves with literal x have the output whose inverse is y, and a side of another net than z.
-fn count_mates(codes: &[u32], heads: &[u32], chain: &[u32], x: u32, y: u32, z: u32) -> u32
+// Counts the halves with literal x by their outputs, from sizes that are all 0.
+fn count_outputs(
+    codes: &[u32],
+    heads: &[u32],
+    chain: &[u32],
+    x: u32,
+    sizes: &mut [u32],
+    sides: &mut [u32],
+)
     requires { ⌜ Normal (now codes) ⌝ }
     requires { ⌜ Room (now codes) (length (now heads)) (length (now chain)) ⌝ }
-    requires { ⌜ HalvesChained (now codes) (length (now heads)) (2 * length (now codes)) (now heads) (now chain) ⌝ }
-    requires { ⌜ (x ≤ maxCode) × (y ≤ maxCode) ⌝ }
+    requires { ⌜ PlacesChained (now codes) (length (now codes)) (now heads) (now chain) ⌝ }
+    requires { ⌜ x < length (now heads) ⌝ }
+    requires { ⌜ (maxCode < length (now sizes)) × (maxCode < length (now sides)) ⌝ }
+    requires { ⌜ ((y : ℕ) → getD (now sizes) y 0 ≡ 0) ⌝ }
+    ensures { λ _. ⌜ Sized (now (codes .entry)) x (now (sizes .exit)) (now (sides .exit)) ⌝ }
+{
+    let mut k = heads[x as usize] as usize;
+    while 0 < k {
+        let p = k - 1;
+        let next = next_place(codes, p);
+        let after = next_place(codes, next);
+        let y = codes[next];
+        let z = codes[after];
+        add_half(sizes, sides, z, y);
+        add_half(sizes, sides, y, z);
+        k = chain[p] as usize;
+    }
+}
+
+// The sizes of the halves with literal x become 0 again.
+fn clear_outputs(codes: &[u32], heads: &[u32], chain: &[u32], x: u32, sizes: &mut [u32])
+    requires { ⌜ Normal (now codes) ⌝ }
+    requires { ⌜ Room (now codes) (length (now heads)) (length (now chain)) ⌝ }
+    requires { ⌜ PlacesChained (now codes) (length (now codes)) (now heads) (now chain) ⌝ }
+    requires { ⌜ x < length (now heads) ⌝ }
+    requires { ⌜ maxCode < length (now sizes) ⌝ }
+    requires { ⌜ ((y : ℕ) → getD (now sizes) y 0 ≡ sizeOf (now codes) x y (2 * length (now codes))) ⌝ }
+    ensures { λ _. ⌜ ((y : ℕ) → getD (now (sizes .exit)) y 0 ≡ 0) ⌝ }
+{
+    let mut k = heads[x as usize] as usize;
+    while 0 < k {
+        let p = k - 1;
+        let next = next_place(codes, p);
+        let after = next_place(codes, next);
+        sizes[codes[after] as usize] = 0;
+        sizes[codes[next] as usize] = 0;
+        k = chain[p] as usize;
+    }
+}
+
+// 1 if there is a half with literal x, the output whose inverse is y, and side z, else 0.
+fn one_half(codes: &[u32], index: &[u32], x: u32, y: u32, z: u32) -> u32
+    requires { ⌜ Indexed (now codes) (now index) ⌝ }
+    requires { ⌜ Normal (now codes) ⌝ }
+    requires { ⌜ (net x ≢ net y) × (net x ≢ net z) × (net y ≢ net z) ⌝ }
+    ensures { λ r. ⌜ r ≡ length (keep (isHalf (now (codes .entry)) x y z) (allHalves (now (codes .entry)))) ⌝ }
+{
+    let clause = [x, y, z];
+    if !is_present(codes, index, &clause) {
+        return 0;
+    }
+    let not_y = inverse(y);
+    let not_z = inverse(z);
+    let companion = [x, not_y, not_z];
+    if !is_present(codes, index, &companion) {
+        return 0;
+    }
+    1
+}
+
+// How many halves with literal x have the output whose inverse is y, and a side of another net than z: all but those with side z
+// or its inverse. Where there is one half only, its side is known.
+fn count_mates(
+    codes: &[u32],
+    index: &[u32],
+    sizes: &[u32],
+    sides: &[u32],
+    x: u32,
+    y: u32,
+    z: u32,
+) -> u32
+    requires { ⌜ Indexed (now codes) (now index) ⌝ }
+    requires { ⌜ Normal (now codes) ⌝ }
+    requires { ⌜ (y < length (now sizes)) × (y < length (now sides)) ⌝ }
+    requires { ⌜ Sized (now codes) x (now sizes) (now sides) ⌝ }
+    requires { ⌜ (net x ≢ net y) × (net x ≢ net z) × (net y ≢ net z) ⌝ }
     ensures { λ r. ⌜ r ≡ length (keep (isMate (now (codes .entry)) x y z) (allHalves (now (codes .entry)))) ⌝ }
     ensures { λ r. ⌜ r ≤ 32768 ⌝ }
 {
-    let mut n: u32 = 0;
-    let b = half_bucket(heads.len(), x, y);
-    let mut k = heads[b] as usize;
-    while 0 < k {
-        let j = k - 1;
-        n += one_mate(codes, j, x, y, z);
-        k = chain[j] as usize;
+    let i = y as usize;
+    let n = sizes[i];
+    if n == 0 {
+        return 0;
     }
-    n
+    if n == 1 {
+        if sides[i] / 2 == z / 2 {
+            return 0;
+        }
+        return 1;
+    }
+    n - one_half(codes, index, x, y, z) - one_half(codes, index, x, y, inverse(z))
 }
 
 // What the mark of a place gets, and how many ITEs with plain select and output have their side t there.
@@ -236,12 +246,13 @@ fn if_plain(x: u32, y: u32, n: u32) -> u32
     0
 }
 
-// The sides at a paired place.
-fn sides_at(codes: &[u32], heads: &[u32], chain: &[u32], p: usize) -> Sides
+// The sides at a paired place; the halves with the inverse of its literal are counted.
+fn sides_at(codes: &[u32], index: &[u32], sizes: &[u32], sides: &[u32], p: usize) -> Sides
+    requires { ⌜ Indexed (now codes) (now index) ⌝ }
     requires { ⌜ Normal (now codes) ⌝ }
-    requires { ⌜ Room (now codes) (length (now heads)) (length (now chain)) ⌝ }
-    requires { ⌜ HalvesChained (now codes) (length (now heads)) (2 * length (now codes)) (now heads) (now chain) ⌝ }
-    requires { ⌜ (p < length (now codes)) × (isPaired (now codes) p ≡ true) ⌝ }
+    requires { ⌜ (maxCode < length (now sizes)) × (maxCode < length (now sides)) ⌝ }
+    requires { ⌜ isPaired (now codes) p ≡ true ⌝ }
+    requires { ⌜ Sized (now codes) (negate (getD (now codes) p 0)) (now sizes) (now sides) ⌝ }
     ensures { λ r. ⌜ r .mark ≡ sideMark (now (codes .entry)) p ⌝ }
     ensures { λ r. ⌜ r .plain ≡ length (pairsOf (now (codes .entry)) (halvesAt p)) ⌝ }
     ensures { λ r. ⌜ (r .mark ≤ 6) × (r .plain ≤ 65536) ⌝ }
@@ -252,25 +263,67 @@ fn sides_at(codes: &[u32], heads: &[u32], chain: &[u32], p: usize) -> Sides
     let y = codes[next];
     let z = codes[after];
     let select = inverse(x);
-    let n = count_mates(codes, heads, chain, select, y, z);
-    let m = count_mates(codes, heads, chain, select, z, y);
+    let n = count_mates(codes, index, sizes, sides, select, y, z);
+    let m = count_mates(codes, index, sizes, sides, select, z, y);
     Sides {
         mark: side_mark(n, m),
         plain: if_plain(x, y, n) + if_plain(x, z, m),
     }
 }
 
-// Adds the marks of the sides, and counts the ITEs.
-fn mark_sides(
+// Adds the marks of the sides at the places of literal x, and counts their ITEs; the halves with its inverse are counted.
+fn mark_places(
     codes: &[u32],
+    index: &[u32],
     heads: &[u32],
     chain: &[u32],
+    x: u32,
+    sizes: &[u32],
+    sides: &[u32],
     marks: &mut [u8],
     counts: Counts,
 ) -> Counts
+    requires { ⌜ Indexed (now codes) (now index) ⌝ }
     requires { ⌜ Normal (now codes) ⌝ }
     requires { ⌜ Room (now codes) (length (now heads)) (length (now chain)) ⌝ }
-    requires { ⌜ HalvesChained (now codes) (length (now heads)) (2 * length (now codes)) (now heads) (now chain) ⌝ }
+    requires { ⌜ PlacesChained (now codes) (length (now codes)) (now heads) (now chain) ⌝ }
+    requires { ⌜ x < length (now heads) ⌝ }
+    requires { ⌜ (maxCode < length (now sizes)) × (maxCode < length (now sides)) ⌝ }
+    requires { ⌜ Sized (now codes) (negate x) (now sizes) (now sides) ⌝ }
+    requires { ⌜ (length (now codes) ≤ length (now marks)) × ((p : ℕ) → isPairedAt (now codes) x p ≡ true → getD (now marks) p 0 < 2) ⌝ }
+    requires { ⌜ counts .ites ≤ 1073741824 ⌝ }
+    ensures { λ r. ⌜ (r .ands ≡ counts .ands) × (r .xors ≡ counts .xors) ⌝ }
+    ensures { λ r. ⌜ SidesAt (now (codes .entry)) (isPairedAt (now (codes .entry)) x) (now (marks .entry)) (now (marks .exit)) (counts .ites) (r .ites) ⌝ }
+{
+    let mut found = counts;
+    let mut k = heads[x as usize] as usize;
+    while 0 < k {
+        let p = k - 1;
+        let s = sides_at(codes, index, sizes, sides, p);
+        marks[p] = marks[p] + s.mark;
+        found = found.with_ites(s.plain);
+        k = chain[p] as usize;
+    }
+    found
+}
+
+// Adds the marks of the sides, and counts the ITEs, literal by literal.
+fn mark_sides(
+    codes: &[u32],
+    index: &[u32],
+    heads: &[u32],
+    chain: &[u32],
+    sizes: &mut [u32],
+    sides: &mut [u32],
+    marks: &mut [u8],
+    counts: Counts,
+) -> Counts
+    requires { ⌜ Indexed (now codes) (now index) ⌝ }
+    requires { ⌜ Normal (now codes) ⌝ }
+    requires { ⌜ Room (now codes) (length (now heads)) (length (now chain)) ⌝ }
+    requires { ⌜ PlacesChained (now codes) (length (now codes)) (now heads) (now chain) ⌝ }
+    requires { ⌜ (maxCode < length (now sizes)) × (maxCode < length (now sides)) ⌝ }
+    requires { ⌜ ((y : ℕ) → getD (now sizes) y 0 ≡ 0) ⌝ }
     requires { ⌜ (length (now codes) ≤ length (now marks)) × ((p : ℕ) → getD (now marks) p 0 < 2) ⌝ }
     requires { ⌜ counts .ites ≡ 0 ⌝ }
     ensures { λ r. ⌜ (r .ands ≡ counts .ands) × (r .xors ≡ counts .xors) ⌝ }
@@ -278,14 +331,13 @@ fn mark_sides(
     ensures { λ _. ⌜ Sided (now (codes .entry)) (now (marks .entry)) (now (marks .exit)) ⌝ }
 {
     let mut found = counts;
-    let mut p = 0;
-    while p < codes.len() {
-        if chain[2 * p] != UNCHAINED {
-            let s = sides_at(codes, heads, chain, p);
-            marks[p] = marks[p] + s.mark;
-            found = found.with_ites(s.plain);
-        }
-        p += 1;
+    let mut x: u32 = 0;
+    while (x as usize) < heads.len() {
+        let select = inverse(x);
+        count_outputs(codes, heads, chain, select, sizes, sides);
+        found = mark_places(codes, index, heads, chain, x, sizes, sides, marks, found);
+        clear_outputs(codes, heads, chain, select, sizes);
+        x += 1;
     }
     found
 }
@@ -297,6 +349,8 @@ pub fn mark_ites(
     kinds: &[u8],
     heads: &mut [u32],
     chain: &mut [u32],
+    sizes: &mut [u32],
+    sides: &mut [u32],
     marks: &mut [u8],
     counts: Counts,
 ) -> Counts
@@ -305,6 +359,8 @@ pub fn mark_ites(
     requires { ⌜ Kinds (now codes) (now kinds) (length (now codes)) ⌝ }
     requires { ⌜ Room (now codes) (length (now heads)) (length (now chain)) ⌝ }
     requires { ⌜ now heads ≡ replicate (length (now heads)) 0 ⌝ }
+    requires { ⌜ (maxCode < length (now sizes)) × (maxCode < length (now sides)) ⌝ }
+    requires { ⌜ ((y : ℕ) → getD (now sizes) y 0 ≡ 0) ⌝ }
     requires { ⌜ (length (now codes) ≤ length (now marks)) × ((p : ℕ) → getD (now marks) p 0 < 2) ⌝ }
     requires { ⌜ counts .ites ≡ 0 ⌝ }
     ensures { λ r. ⌜ (r .ands ≡ counts .ands) × (r .xors ≡ counts .xors) ⌝ }
@@ -312,5 +368,5 @@ pub fn mark_ites(
     ensures { λ _. ⌜ Sided (now (codes .entry)) (now (marks .entry)) (now (marks .exit)) ⌝ }
 {
     chain_paired(codes, index, kinds, heads, chain);
-    mark_sides(codes, heads, chain, marks, counts)
+    mark_sides(codes, index, heads, chain, sizes, sides, marks, counts)
 }

@@ -11,7 +11,7 @@ mod ites;
 mod literal;
 mod mark;
 mod normal;
+pub mod place;
 mod prepare;
 mod search;
-pub mod walk;
 mod xor;

@@ -11,8 +11,8 @@ ghost use Rattle.gates.specs.Mark.{Spans, isCandidate, Kinds, Twos, mark
 use crate::and::is_and;
 use crate::counts::Counts;
 use crate::literal::inverse;
+use crate::place::clause_end;
 use crate::search::is_present;
-use crate::walk::clause_end;
 use crate::xor::is_xor;
 
 // Marks the literal at p of the clause from b to end, if it is the output of an AND.

@@ -11,19 +11,16 @@ ghost use lib.ListN.{length, getD};
 ghost use lib.Seq.{sets, slice};
 ghost use Rattle.clauses.specs.Limit.{maxEntries};
 ghost use Rattle.clauses.specs.Code.{codeOf};
-ghost use Rattle.clauses.specs.Listing.{tautology};
+ghost use Rattle.clauses.specs.Listing.{tautology, literals};
 ghost use Rattle.gates.specs.Found.{clauseAt};
-ghost use Rattle.gates.specs.Normal.{firsts, normalRow, maxCode, SmallEntries, Older};
+ghost use Rattle.gates.specs.Normal.{normalRow, maxCode, SmallEntries, Older};
 
 // The place of the 0 that ends the clause at b, or the row's length.
 fn entries_end(row: &[i32], b: usize) -> usize
     ensures { λ r. ⌜ r ≡ b + length (clauseAt (map codeOf (now (row .entry))) b) ⌝ }
 {
     let mut i = b;
-    while i < row.len() {
-        if magnitude_at(row, i) == 0 {
-            return i;
-        }
+    while magnitude_at(row, i) != 0 {
         i += 1;
     }
     i
@@ -65,8 +62,8 @@ fn put_clause(
     requires { ⌜ SmallEntries (now row) ⌝ }
     requires { ⌜ maxCode < length (now seen) ⌝ }
     requires { ⌜ Older (now seen) stamp ⌝ }
-    ensures { λ r. ⌜ r ≡ n + length (firsts (slice b e (map codeOf (now (row .entry))))) + 1 ⌝ }
-    ensures { λ _. ⌜ now (codes .exit) ≡ sets (now (codes .entry)) n (firsts (slice b e (map codeOf (now (row .entry)))) ++ 0 ∷ []) ⌝ }
+    ensures { λ r. ⌜ r ≡ n + length (literals (slice b e (map codeOf (now (row .entry))))) + 1 ⌝ }
+    ensures { λ _. ⌜ now (codes .exit) ≡ sets (now (codes .entry)) n (literals (slice b e (map codeOf (now (row .entry)))) ++ 0 ∷ []) ⌝ }
     ensures { λ _. ⌜ Older (now (seen .exit)) (stamp + 1) ⌝ }
 {
     let mut m = n;

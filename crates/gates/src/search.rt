@@ -2,14 +2,14 @@
 
 use crate::index::BUCKETS;
 use crate::index::bucket_of;
-use crate::walk::literal;
+use crate::place::literal;
 ghost use mathlib.Core.Path.{_≡_};
 ghost use Rattle.clauses.specs.Clause.{clausesIn};
 ghost use Rattle.clauses.specs.Listing.{mem, present};
 ghost use Rattle.gates.specs.Found.{clauseAt};
 ghost use Rattle.gates.specs.Normal.{Normal};
 ghost use Rattle.gates.specs.Index.{Indexed};
-ghost use Rattle.gates.specs.Search.{placeOf, Once};
+ghost use Rattle.gates.specs.Search.{firstPlace, Once};
 
 // Where a clause starts, if it is there.
 pub enum Place {
@@ -36,7 +36,7 @@ pub fn find(codes: &[u32], index: &[u32], q: &[u32]) -> Place
     requires { ⌜ Indexed (now codes) (now index) ⌝ }
     requires { ⌜ Normal (now codes) ⌝ }
     requires { ⌜ Once (now q) ⌝ }
-    ensures { λ r. ⌜ r ≡ placeOf (now (codes .entry)) (now (q .entry)) ⌝ }
+    ensures { λ r. ⌜ r ≡ firstPlace (now (codes .entry)) (now (q .entry)) ⌝ }
 {
     let n = codes.len();
     let mut b = index[bucket_of(q)] as usize;

@@ -10,7 +10,7 @@ ghost use Rattle.clauses.specs.Clause.{clausesIn};
 ghost use Rattle.clauses.specs.Lists.{all};
 ghost use Rattle.clauses.specs.Listing.{present};
 ghost use Rattle.gates.specs.Sign.{plus, flip, isInverse};
-ghost use Rattle.gates.specs.Listing.{signed};
+ghost use Rattle.gates.specs.Listing.{signings};
 ghost use Rattle.gates.specs.Found.{clauseAt, Starts};
 ghost use Rattle.gates.specs.Normal.{Normal};
 ghost use Rattle.gates.specs.Index.{Indexed};
@@ -126,7 +126,7 @@ fn is_every_mask_present(codes: &[u32], index: &[u32], clause: &[u32]) -> bool
     requires { ⌜ Once (map net (now clause)) ⌝ }
     requires { ⌜ length (now clause) ≤ 5 ⌝ }
     requires { ⌜ present (clausesIn (now codes)) (now clause) ≡ true ⌝ }
-    ensures { λ r. ⌜ r ≡ all (present (clausesIn (now (codes .entry)))) (signed (now (clause .entry)) false) ⌝ }
+    ensures { λ r. ⌜ r ≡ all (present (clausesIn (now (codes .entry)))) (signings (now (clause .entry)) false) ⌝ }
 {
     let top = mask_count(clause.len());
     let mut m = 1;

@@ -25,13 +25,14 @@ use Rattle.passes.specs.Making.{Kernel, Drawn, Making, JoinedBy, Later, 
 use Rattle.passes.specs.Joining.{joinState}
 use Rattle.passes.specs.Passing.{leadAt}
 use Rattle.passes.specs.Marked.{Marked, Ready, Went}
-use Rattle.passes.specs.Matching.{AndAt, Takes, Within, Alike, Leads, mix, Largest, Bucket, FirstIn, Table, Told, Matched}
+use Rattle.passes.specs.Matching.{AndAt, Takes, Within, Alike, Leads, spreadOf, Bucket, FirstIn, Table, Told, Matched}
 use Rattle.passes.specs.declared.and_pairs.Match.the-variants.{Absent, With, First}
 use Rattle.passes.specs.declared.tally.Tally.{Tally}
 use Rattle.passes.proofs.Starts.{start-is}
 use Rattle.passes.proofs.Going.{found-marked, went-none, ready-net, join-went}
 use Rattle.passes.proofs.Searches.{lead-true, lead-negate}
 use Rattle.passes.proofs.AndOutputs.{InputAt, input-at, at-input, is-and, not-and, input-moved}
+use Rattle.passes.proofs.Signatures.{sum-same, sum-below}
 use Rattle.passes.proofs.JoinedBy.{drawn-new, joined-back, joined-chain}
 
 -- the AND of a literal's mark
@@ -64,42 +65,11 @@ alike-same : (row old : List ℕ) (p : ℕ) → Alike row old p p
 alike-same row old p = record { left = λ x k. k; right = λ x k. k }
 
 -- equal sets are in one bucket
-module _ {row old : List ℕ} {p q : ℕ} (a : Alike row old p q) where
-  largest-move : {k r : ℕ} → Largest row old k p r → Largest row old k q r
-  largest-move {k} {r} f = record { bound = λ x t. f .bound x (a .right x t); reached = go (f .reached) }
-    where
-      go : (r ≡ 0) ⊎ ((x : ℕ) × Takes row old p x × (mix k x ≡ r)) → (r ≡ 0) ⊎ ((x : ℕ) × Takes row old q x × (mix k x ≡ r))
-      go (inl z) = inl z
-      go (inr (x, t, e)) = inr (x, a .left x t, e)
+bucket-move : {row old : List ℕ} {p q m h : ℕ} → Alike row old p q → Bucket row old m p h → Bucket row old m q h
+bucket-move a b = record { signature = b .signature; signed = sum-below (λ x l. a .left x) (λ x l. a .right x) (b .signed); is = b .is }
 
-  bucket-move : {m h : ℕ} → Bucket row old m p h → Bucket row old m q h
-  bucket-move b =
-      record {
-        one = b .one;
-        two = b .two;
-        three = b .three;
-        four = b .four;
-        first = largest-move (b .first);
-        second = largest-move (b .second);
-        third = largest-move (b .third);
-        fourth = largest-move (b .fourth);
-        is = b .is;
-      }
-
-module _ {row old : List ℕ} {p : ℕ} where
-  largest-low : {k r s : ℕ} → Largest row old k p r → Largest row old k p s → r ≤ s
-  largest-low {k} {r} {s} f g = go (f .reached)
-    where
-      go : (r ≡ 0) ⊎ ((x : ℕ) × Takes row old p x × (mix k x ≡ r)) → r ≤ s
-      go (inl z) = omega arith
-      go (inr (x, t, e)) = omega (arith, g .bound x t)
-
-  largest-once : {k r s : ℕ} → Largest row old k p r → Largest row old k p s → r ≡ s
-  largest-once f g = omega (arith, largest-low f g, largest-low g f)
-
-  bucket-once : {m g h : ℕ} → Bucket row old m p g → Bucket row old m p h → g ≡ h
-  bucket-once {m} a b =
-      rw (largest-once (a .first) (b .first), largest-once (a .second) (b .second), largest-once (a .third) (b .third), largest-once (a .fourth) (b .fourth)) at (a .is) ∙ sym (b .is)
+bucket-once : {row old : List ℕ} {p m g h : ℕ} → Bucket row old m p g → Bucket row old m p h → g ≡ h
+bucket-once {m = m} a b = a .is ∙ ap (λ (s : ℕ). spreadOf s % m) (sum-same (λ x k. k) (λ x k. k) (a .signed) (b .signed)) ∙ sym (b .is)
 
 -- one AND is the first with a set
 leads-once : {row marks old : List ℕ} {p q : ℕ} → Leads row marks old p → Leads row marks old q → Alike row old p q → p ≡ q

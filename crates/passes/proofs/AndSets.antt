@@ -1,12 +1,11 @@
--- The sets of ANDs' input leads: the tests and the bucket that the program computes.
+-- The sets of ANDs' input leads: the tests and the signature that the program computes.
 -- Assumes nothing.
-use mathlib.Core.Path.{_≡_, refl, sym, _∙_, ap, subst, subst⁻¹}
-use mathlib.Core.Logic.{_≢_, _⊎_, inl, inr}
+use mathlib.Core.Path.{_≡_, refl, sym, _∙_, subst, subst⁻¹}
+use mathlib.Core.Logic.{_≢_}
 use mathlib.Core.Bool.{Bool, true, false}
 use mathlib.Core.List.{List}
-use Prim.Native.Nat.{ℕ, _+_, _*_, _%_, _≤_, _<_}
+use Prim.Native.Nat.{ℕ, _+_, _≤_, _<_}
 use native.Mathlib.Omega.{arith}
-use native.Mathlib.Nat.{mul-le-mul}
 use native.Mathlib.Decide.{ℕ-discrete, decLt}
 use lib.Dec.{eqb, ltb}
 use lib.ListN.{length, getD}
@@ -16,26 +15,13 @@ use Rattle.passes.proofs.Walking.{literal-inside}
 use Rattle.gates.specs.Mark.{startOf}
 use Rattle.passes.specs.Passing.{leadAt, isWith, First, isEnding, Tells}
 use Rattle.passes.specs.Holding.{Holds}
-use Rattle.passes.specs.Matching.{Placed, HasLead, Takes, Within, Common, Held, HoldsAt, Alike, mix, Largest, Raised, otherLead}
+use Rattle.passes.specs.Matching.{Placed, HasLead, Within, Common, Held, HoldsAt, Alike, Signature, Summed}
 use Rattle.passes.proofs.Searches.{Upto, with-is, not-with}
 use Rattle.passes.proofs.AndOutputs.{ending-is}
+use Rattle.passes.proofs.Signatures.{sum-below}
 
 pub placed-inside : {row : List ℕ} {p : ℕ} → Placed row p → p < length row
 placed-inside {row} {p} k = literal-inside row (startOf row p) p (k .at)
-
--- the lead that is counted at a place
-module _ (row old : List ℕ) (p a : ℕ) where
-  pub own-lead : a ≡ p → otherLead row old p a ≡ 0
-  unfolding otherLead
-  own-lead e = rw (eq-eqb a p e)
-
-  pub other-lead : a ≢ p → otherLead row old p a ≡ leadAt row old a
-  unfolding otherLead
-  other-lead n = rw (ne-eqb a p n)
-
-mix-false : (k : ℕ) → mix k 0 ≡ 0
-unfolding mix
-mix-false k = omega arith
 
 -- the clause of a place, from its start up to its ending
 pub record Spans (row : List ℕ) (p b e : ℕ) : Type 0 where
@@ -48,12 +34,6 @@ pub spans : (row : List ℕ) (p b e : ℕ) → Placed row p → b ≡ startOf ro
 spans row p b e k h f =
     let end = ending-is row (startOf row p) p e (k .at) (k .ended) f in
     record { start = h; end = end; inside = omega (arith, k .ended); here = k .at }
-
--- r is the largest mix of the places of p from b up to a
-pub record Counted (row old : List ℕ) (k p b a r : ℕ) : Type 0 where
-  pub begun : b ≤ a
-  pub bound : (c : ℕ) → b ≤ c → c < a → c ≢ p → leadAt row old c ≢ 0 → mix k (leadAt row old c) ≤ r
-  pub reached : (r ≡ 0) ⊎ ((x : ℕ) × Takes row old p x × (mix k x ≡ r))
 
 module _ {row : List ℕ} {p b e : ℕ} (span : Spans row p b e) where
   pub span-low : (b ≤ e) × (e ≤ length row)
@@ -112,63 +92,12 @@ module _ {row : List ℕ} {p b e : ℕ} (span : Spans row p b e) where
   pub holds-at : {old held : List ℕ} → Holds row old b e p held → HoldsAt row old p held
   holds-at k = rw (span .start, span .end) at k
 
-  -- the largest mix
-  module _ (old : List ℕ) (k : ℕ) where
-    pub counted-begin : Counted row old k p b b 0
-    counted-begin = record { begun = omega arith; bound = λ c l h. absurd (omega arith); reached = inl refl }
-
-    pub counted-on : (a r s : ℕ) → Counted row old k p b a r → a < e → Raised k (otherLead row old p a) r s → Counted row old k p b (a + 1) s
-    counted-on a r s w h i =
-        record { begun = omega (arith, w .begun); bound = λ c l m d z. bound c l m d z (ℕ-discrete c a); reached = reached (i .reached) (ℕ-discrete a p) (ℕ-discrete (leadAt row old a) 0) }
-      where
-        bound : (c : ℕ) → b ≤ c → c < a + 1 → c ≢ p → leadAt row old c ≢ 0 → Dec (c ≡ a) → mix k (leadAt row old c) ≤ s
-        bound c l m d z (yes y) =
-            subst⁻¹ (λ (v : ℕ). mix k (leadAt row old v) ≤ s) y (subst (λ (x : ℕ). mix k x ≤ s) (other-lead row old p a (λ v. d (y ∙ v))) (i .bound))
-        bound c l m d z (no y) = omega (arith, w .bound c l (omega arith) d z, i .low)
-
-        -- F raises none
-        same : otherLead row old p a ≡ 0 → mix k (otherLead row old p a) ≡ s → s ≡ r
-        same z y = omega (arith, mix-false k, sym (ap (mix k) z) ∙ y, i .low)
-
-        stays : s ≡ r → (s ≡ 0) ⊎ ((x : ℕ) × Takes row old p x × (mix k x ≡ s))
-        stays y = subst⁻¹ (λ (v : ℕ). (v ≡ 0) ⊎ ((x : ℕ) × Takes row old p x × (mix k x ≡ v))) y (w .reached)
-
-        reached : (s ≡ r) ⊎ (mix k (otherLead row old p a) ≡ s) → Dec (a ≡ p) → Dec (leadAt row old a ≡ 0) → (s ≡ 0) ⊎ ((x : ℕ) × Takes row old p x × (mix k x ≡ s))
-        reached (inl y) d f = stays y
-        reached (inr y) (yes d) f = stays (same (own-lead row old p a d) y)
-        reached (inr y) (no d) (yes f) = stays (same (other-lead row old p a d ∙ f) y)
-        reached (inr y) (no d) (no f) =
-            inr (leadAt row old a, (record { place = a; at = literal a (w .begun) h; apart = d; lead = refl }, f), sym (ap (mix k) (other-lead row old p a d)) ∙ y)
-
-    pub counted-all : (a r : ℕ) → Counted row old k p b a r → e ≤ a → Largest row old k p r
-    counted-all a r w h = record { bound = bound; reached = w .reached }
-      where
-        bound : (x : ℕ) → Takes row old p x → mix k x ≤ r
-        bound x (i, n) =
-            subst (λ (y : ℕ). mix k y ≤ r) (i .lead)
-            (w .bound (i .place) (low (i .at)) (omega (arith, high (i .at))) (i .apart) (λ z. n (sym (i .lead) ∙ z)))
-
--- the mix of a lead
-pub mix-fits : (x k : ℕ) → k < 65536 → x % 65536 * k ≤ 4294836225
-mix-fits x k h = mul-le-mul {n₂ = 65535} {m₂ = 65535} (omega arith) (omega arith)
-
-mix-small : (k x : ℕ) → mix k x ≤ 65536
-unfolding mix
-mix-small k x = omega arith
-
-pub counted-small : {row old : List ℕ} {k p b a r : ℕ} → Counted row old k p b a r → r ≤ 65536
-counted-small {row} {old} {k} {p} {r = r} f = go (f .reached)
-  where
-    go : (r ≡ 0) ⊎ ((x : ℕ) × Takes row old p x × (mix k x ≡ r)) → r ≤ 65536
-    go (inl z) = omega arith
-    go (inr (x, t, z)) = omega (arith, mix-small k x)
-
-module _ (k y r m : ℕ) (is : m ≡ mix k y) where
-  pub raised-more : r < m → Raised k y r m
-  raised-more h = record { low = omega arith; bound = omega arith; reached = inr (sym is) }
-
-  pub raised-less : m ≤ r → Raised k y r r
-  raised-less h = record { low = omega arith; bound = omega arith; reached = inl refl }
+  -- the signature
+  pub signed : (old : List ℕ) (s : ℕ) → Summed row old b e p s → Signature row old p s
+  signed old s =
+      sum-below
+      (λ x l (a, n). (record { place = a .place; at = literal (a .place) (a .low) (a .high); apart = a .apart; lead = a .lead }, n))
+      (λ x l (h, n). (record { place = h .place; low = low (h .at); high = high (h .at); apart = h .apart; lead = h .lead }, n))
 
 -- the lead at a place is told to be one of another
 pub common-rest : (row old : List ℕ) (p q a y : ℕ) → a ≢ p → y ≢ 0 → y ≡ leadAt row old a → (r : Bool) → Tells (HasLead row old q y) r → Tells (Common row old p q a) r

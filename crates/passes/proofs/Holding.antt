@@ -30,14 +30,14 @@ ready-low {row} {old = old} r q h = go (ℕ-discrete (getD row q 0) 0)
 
 module _ {row old : List ℕ} {b e p : ℕ} where
   -- with one more place
-  among-on : {x : ℕ} → Among row old b e p x → Among row old b (e + 1) p x
+  pub among-on : {x : ℕ} → Among row old b e p x → Among row old b (e + 1) p x
   among-on a = record { place = a .place; low = a .low; high = omega (arith, a .high); apart = a .apart; lead = a .lead }
 
-  among-last : e ≢ p → b ≤ e → Among row old b (e + 1) p (leadAt row old e)
+  pub among-last : e ≢ p → b ≤ e → Among row old b (e + 1) p (leadAt row old e)
   among-last n h = record { place = e; low = h; high = omega arith; apart = n; lead = refl }
 
   -- without the last one
-  among-but : {x : ℕ} → Among row old b (e + 1) p x → (e ≡ p) ⊎ (leadAt row old e ≢ x) → Among row old b e p x
+  pub among-but : {x : ℕ} → Among row old b (e + 1) p x → (e ≡ p) ⊎ (leadAt row old e ≢ x) → Among row old b e p x
   among-but {x} a n = record { place = a .place; low = a .low; high = go n (ℕ-discrete (a .place) e); apart = a .apart; lead = a .lead }
     where
       go : (e ≡ p) ⊎ (leadAt row old e ≢ x) → Dec (a .place ≡ e) → a .place < e

@@ -18,6 +18,7 @@ pub mod AndOutputs
 pub mod SidePairs
 pub mod SideRows
 pub mod SideCounts
+pub mod Signatures
 pub mod AndSets
 pub mod AndPairs
 pub mod Maps

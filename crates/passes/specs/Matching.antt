@@ -1,18 +1,19 @@
 -- ANDs matched by the sets of their inputs' leads, with a table of those that came first with their set. Only inner contracts cite these.
 -- Assumes nothing.
 use mathlib.Core.Path.{_≡_}
-use mathlib.Core.Logic.{_≢_, _⊎_}
+use mathlib.Core.Logic.{_≢_}
 use mathlib.Core.Bool.{true, cond}
 use mathlib.Core.List.{List}
-use Prim.Native.Nat.{ℕ, _+_, _*_, _%_, _≤_, _<_}
+use Prim.Native.Nat.{ℕ, suc, _+_, _*_, _%_, _≤_, _<_}
 use lib.Dec.{eqb}
 use lib.ListN.{length, getD}
+use Rattle.clauses.specs.Limit.{maxNets}
 use Rattle.gates.specs.Found.{clauseAt, LiteralAt, isAnd}
 use Rattle.gates.specs.Mark.{startOf}
 use Rattle.gates.specs.Chains.{ChainedIn}
 use Rattle.passes.specs.Making.{JoinedBy}
 use Rattle.passes.specs.Passing.{leadAt}
-use Rattle.passes.specs.Holding.{Holds}
+use Rattle.passes.specs.Holding.{Among, Holds}
 use Rattle.passes.specs.declared.and_pairs.Match.{Match}
 use Rattle.passes.specs.declared.and_pairs.Match.the-variants.{Absent, With, First}
 use Rattle.passes.specs.declared.tally.Tally.{Tally}
@@ -51,27 +52,42 @@ pub record Leads (row marks old : List ℕ) (p : ℕ) : Type 0 where
   pub and : AndAt row marks p
   pub first : (q : ℕ) → q < p → AndAt row marks q → ¬ Alike row old q p
 
--- The bucket of a set
+-- The signature of a set, and its bucket
 
-unfoldable pub mix : ℕ → ℕ → ℕ
-mix k x = x % 65536 * k % 65537
+-- the hash of a lead
+unfoldable pub hashOf : ℕ → ℕ
+hashOf x = squared 4503599627370449 (squared 4294967291 (x * 2654435761 % 4294967291))
+  where
+    squared : ℕ → ℕ → ℕ
+    squared m y = y * y % m
 
--- r is the largest mix of the set at p, 0 if it is empty
-pub record Largest (row old : List ℕ) (k p r : ℕ) : Type 0 where
-  pub bound : (x : ℕ) → Takes row old p x → mix k x ≤ r
-  pub reached : (r ≡ 0) ⊎ ((x : ℕ) × Takes row old p x × (mix k x ≡ r))
+-- s is the sum of the hashes of the numbers below n that are in the set
+pub data SumBelow (In : ℕ → Type 0) : ℕ → ℕ → Type 0 where
+  none : SumBelow In 0 0
+  skip : {n s : ℕ} → ¬ In n → SumBelow In n s → SumBelow In (suc n) s
+  take : {n s : ℕ} → In n → SumBelow In n s → SumBelow In (suc n) (s + hashOf n)
+
+-- s is the signature of the set at p
+abbrev pub Signature : List ℕ → List ℕ → ℕ → ℕ → Type 0
+Signature row old p s = SumBelow (Takes row old p) (2 * maxNets + 2) s
+
+-- the hash of a signature
+unfoldable pub spreadOf : ℕ → ℕ
+spreadOf s = s % 4294967291 * (s % 4294967279) % 4503599627370449
 
 -- the set at p belongs to bucket h of m
 pub record Bucket (row old : List ℕ) (m p h : ℕ) : Type 0 where
-  pub one : ℕ
-  pub two : ℕ
-  pub three : ℕ
-  pub four : ℕ
-  pub first : Largest row old 40503 p one
-  pub second : Largest row old 25717 p two
-  pub third : Largest row old 58111 p three
-  pub fourth : Largest row old 30011 p four
-  pub is : h ≡ (((one * 31 + two) * 31 + three) * 31 + four) % m
+  pub signature : ℕ
+  pub signed : Signature row old p signature
+  pub is : h ≡ spreadOf signature % m
+
+-- what the lead x adds to a signature, if the leads added before are held
+unfoldable pub shareOf : List ℕ → ℕ → ℕ
+shareOf held x = cond (eqb (getD held x 0) 1) 0 (hashOf x)
+
+-- s is the sum of the hashes of the leads at the places from b up to e, other than p, but for F
+abbrev pub Summed : List ℕ → List ℕ → ℕ → ℕ → ℕ → ℕ → Type 0
+Summed row old b e p s = SumBelow (λ x. Among row old b e p x × (x ≢ 0)) (2 * maxNets + 2) s
 
 -- The table: the ANDs that are the first with their sets, chained by the buckets of these
 
@@ -96,16 +112,6 @@ Told row marks old m p (First h) = AndAt row marks p × (h < m) × Bucket row ol
 abbrev pub Matched : List ℕ → List ℕ → List ℕ → List ℕ → Tally → ℕ → Type 0
 Matched row marks old new t p =
     (q : ℕ) → q < p → AndAt row marks q → (r : ℕ) × Leads row marks old r × Alike row old r q × JoinedBy new t (getD row q 0) (getD row r 0)
-
--- s is the largest of r and the mix of the lead y
-pub record Raised (k y r s : ℕ) : Type 0 where
-  pub low : r ≤ s
-  pub bound : mix k y ≤ s
-  pub reached : (s ≡ r) ⊎ (mix k y ≡ s)
-
--- the lead at place a, if a is not p, else F: F has the mix 0, which raises none
-unfoldable pub otherLead : List ℕ → List ℕ → ℕ → ℕ → ℕ
-otherLead row old p a = cond (eqb a p) 0 (leadAt row old a)
 
 -- the lead at place a, if a is not p and it is not F, is one at q
 abbrev pub Common : List ℕ → List ℕ → ℕ → ℕ → ℕ → Type 0

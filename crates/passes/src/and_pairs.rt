@@ -7,8 +7,8 @@ ghost use Rattle.passes.specs.Making.{JoinedBy};
 ghost use Rattle.passes.specs.Holding.{Blank, Low};
 ghost use Rattle.passes.specs.Matching.{AndAt, Alike, Table, Told, Matched};
 ghost use Rattle.passes.specs.Marked.{Marked, Ready, Went};
-use crate::and_sets::bucket;
 use crate::and_sets::is_alike;
+use crate::signature::bucket;
 use crate::tally::Tally;
 use gates::chain::link;
 use gates::fill::fill;
@@ -52,7 +52,7 @@ fn look_up(
     if marks[p] % 2 != 1 {
         return Match::Absent;
     }
-    let h = bucket(codes, old, heads.len(), p);
+    let h = bucket(codes, old, heads.len(), p, held);
     let mut k = heads[h] as usize;
     while 0 < k {
         if is_alike(codes, old, k - 1, p, held) {

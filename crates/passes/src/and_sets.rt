@@ -1,12 +1,11 @@
-// The set of an AND's input leads, T left out: compared with another's, and the bucket that it belongs to.
+// The set of an AND's input leads, T left out, compared with another's.
 
-ghost use mathlib.Core.Path.{_≡_};
 ghost use Prim.Native.Nat.{ℕ, _+_, _*_, _≤_, _<_};
 ghost use lib.ListN.{length};
 ghost use Rattle.clauses.specs.Limit.{maxNets};
 ghost use Rattle.passes.specs.Passing.{Tells};
 ghost use Rattle.passes.specs.Holding.{Blank, Low};
-ghost use Rattle.passes.specs.Matching.{Placed, HasLead, Within, Alike, mix, Bucket, Raised, otherLead, Common, Held, HoldsAt};
+ghost use Rattle.passes.specs.Matching.{Placed, HasLead, Within, Alike, Common, Held, HoldsAt};
 use crate::held::hold;
 use crate::held::is_narrow;
 use crate::held::release;
@@ -151,58 +150,4 @@ pub fn is_alike(codes: &[u32], old: &[u32], p: usize, q: usize, held: &mut [u8])
         }
     }
     is_wide_alike(codes, old, p, q, held)
-}
-
-// The mix of a lead.
-fn mixed(k: u32, x: u32) -> u32
-    requires { ⌜ k < 65536 ⌝ }
-    ensures { λ r. ⌜ r ≡ mix k x ⌝ }
-{
-    x % 65536 * k % 65537
-}
-
-// The largest mix, with that of the lead y.
-fn raised(k: u32, y: u32, r: u32) -> u32
-    requires { ⌜ k < 65536 ⌝ }
-    ensures { λ s. ⌜ Raised k y r s ⌝ }
-{
-    let m = mixed(k, y);
-    if r < m {
-        return m;
-    }
-    r
-}
-
-// The lead at place a, if a is not p, else F.
-fn other_lead(codes: &[u32], old: &[u32], p: usize, a: usize) -> u32
-    requires { ⌜ a < length (now codes) ⌝ }
-    ensures { λ r. ⌜ r ≡ otherLead (now (codes .entry)) (now (old .entry)) p a ⌝ }
-{
-    if a == p {
-        return 0;
-    }
-    lead_of(old, codes[a])
-}
-
-// The bucket of the set at p, of m.
-pub fn bucket(codes: &[u32], old: &[u32], m: usize, p: usize) -> usize
-    requires { ⌜ (0 < m) × Placed (now codes) p ⌝ }
-    ensures { λ r. ⌜ Bucket (now (codes .entry)) (now (old .entry)) m p r × (r < m) ⌝ }
-{
-    let b = beginning(codes, p);
-    let e = ending(codes, p);
-    let mut one = 0;
-    let mut two = 0;
-    let mut three = 0;
-    let mut four = 0;
-    let mut a = b;
-    while a < e {
-        let y = other_lead(codes, old, p, a);
-        one = raised(40503, y, one);
-        two = raised(25717, y, two);
-        three = raised(58111, y, three);
-        four = raised(30011, y, four);
-        a += 1;
-    }
-    (((one * 31 + two) * 31 + three) * 31 + four) as usize % m
 }

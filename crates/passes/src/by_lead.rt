@@ -14,7 +14,7 @@ use crate::lead::lead_of;
 use clauses::limits::MAX_ENTRIES;
 use gates::chain::link;
 use gates::fill::fill;
-use gates::walk::literal;
+use gates::place::literal;
 
 // Enters place q by the net of its lead, if a gate ties it or it is that of a select, and if there is room.
 fn enter_place(

@@ -14,7 +14,7 @@ use crate::sides::place_after;
 use clauses::limits::MAX_ENTRIES;
 use gates::chain::link;
 use gates::fill::fill;
-use gates::walk::clause_end;
+use gates::place::clause_end;
 
 // The chains of all places.
 fn chain_places(codes: &[u32], heads: &mut [u32], next: &mut [u32])

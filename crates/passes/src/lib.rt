@@ -17,6 +17,7 @@ pub mod row;
 mod side_chains;
 mod sides;
 mod sign;
+mod signature;
 mod table;
 pub mod tally;
 mod touched;

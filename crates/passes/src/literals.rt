@@ -6,7 +6,7 @@ ghost use lib.ListN.{length};
 ghost use Rattle.gates.specs.Mark.{startOf};
 ghost use Rattle.passes.specs.Passing.{isOther, isWith, isEnding, First};
 use crate::lead::lead_of;
-use gates::walk::clause_end;
+use gates::place::clause_end;
 
 // Whether place q is not `skip`, and its lead neither F nor y.
 fn is_other(codes: &[u32], old: &[u32], skip: usize, y: u32, q: usize) -> bool

@@ -10,7 +10,7 @@ ghost use Rattle.passes.specs.Marked.{Ready, Went};
 use crate::literals::first_other;
 use crate::sign::flipped;
 use crate::tally::Tally;
-use gates::walk::literal;
+use gates::place::literal;
 
 // Rule 1 for the clause from b up to its ending at e, whatever the marks are.
 fn by_unit(codes: &[u32], b: usize, e: usize, old: &[u32], new: &mut [u32], t: Tally) -> Tally

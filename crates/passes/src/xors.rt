@@ -15,7 +15,7 @@ use crate::table::enter;
 use crate::table::look_up;
 use crate::tally::Tally;
 use gates::fill::fill;
-use gates::walk::literal;
+use gates::place::literal;
 
 // Buckets of the table, and of that for a short row: primes, as the nets of a key stand in powers of two.
 const BUCKETS: usize = 4093;

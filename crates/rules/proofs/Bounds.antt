@@ -8,7 +8,7 @@ use native.Mathlib.Nat.{le-trans}
 use native.Mathlib.Omega.{arith}
 use lib.ListN.{length}
 use Rattle.rules.specs.declared.Verdict.{Verdict}
-use Rattle.rules.specs.declared.Verdict.the-variants.{Contradiction}
+use Rattle.rules.specs.declared.Verdict.the-variants.{Contradiction, Unfinished}
 use Rattle.clauses.specs.Listing.{Fits}
 use Rattle.gates.specs.Count.{netsOf}
 use Rattle.rules.specs.Grouping.{After}
@@ -59,10 +59,12 @@ module _ (v : ℕ) (cs : List (List ℕ)) (fit : Fits v cs) where
   ends-bounded (settled {n = n} p a s e) = let q = changes-bound n (p n a) e in omega arith
   ends-bounded {limit} (unfinished p e) = let q = changes-bound limit (p limit (omega arith)) (λ i q. e i (omega arith)) in omega arith
 
-  -- every limit over V ends alike
+  -- a limit over V is enough
+  pub ends-finished : {limit n : ℕ} → v < limit → Ends cs limit Unfinished n → ⊥
+  ends-finished {limit} h (unfinished p e) = let q = changes-bound limit (p limit (omega arith)) (λ i q. e i (omega arith)) in omega arith
+
+  -- and all of them end alike
   pub ends-beyond : {limit more n : ℕ} {w : Verdict} → v < limit → limit ≤ more → Ends cs limit w n → Ends cs more w n
   ends-beyond h k (contradiction a c f) = contradiction (le-trans a k) c f
   ends-beyond {more = more} h k (settled {n = n} p a s e) = settled-at cs more (le-trans a k) (p n a) s e
-  ends-beyond {limit} h k (unfinished p e) =
-      let q = changes-bound limit (p limit (omega arith)) (λ i q. e i (omega arith)) in
-      absurd (omega arith)
+  ends-beyond h k (unfinished p e) = absurd (ends-finished h (unfinished p e))

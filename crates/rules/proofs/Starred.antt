@@ -9,14 +9,14 @@ use Rattle.clauses.specs.Listing.{mem, within, sameSet, tautology, present, lit
 use Rattle.clauses.proofs.Lists.{all-have}
 use Rattle.clauses.proofs.Clauses.{fits-is}
 use Rattle.gates.specs.Sign.{isInverse}
-use Rattle.gates.specs.Listing.{ands, signed, xorClauses, literalsOf, isThen, isElse, ites}
+use Rattle.gates.specs.Listing.{ands, signings, xorClauses, literalsOf, isThen, isElse, ites}
 use Rattle.gates.specs.Count.{andCount, netsOf, xors, xorCount, isPlain, iteCount}
 use Rattle.rules.specs.Answer.{leadOf, own}
 use Rattle.rules.specs.Compute.{parities, byClause, byAnd, covers, byAnds, byXor, byXors, byIte, byItes, gatesOf, aloneAndPaired, conclusions, replace, joinLeads, joinAll, sameLead, round, run, closed, tally, answer}
 use Rattle.rules.specs.Starred.{Starred, starred}
 
 table-computed : map (λ (s : Starred). answer (s .nets) (s .clauses) (suc (s .nets))) starred ≡ map (λ (s : Starred). s .result) starred
-unfolding any all keep each also only from sameList picks choose mem within sameSet tautology present literals clauseSets isInverse ands signed xorClauses literalsOf isThen isElse ites andCount netsOf xors xorCount isPlain iteCount leadOf own parities byClause byAnd covers byAnds byXor byXors byIte byItes gatesOf aloneAndPaired conclusions replace joinLeads joinAll sameLead round run closed tally answer
+unfolding any all keep each also only from sameList picks choose mem within sameSet tautology present literals clauseSets isInverse ands signings xorClauses literalsOf isThen isElse ites andCount netsOf xors xorCount isPlain iteCount leadOf own parities byClause byAnd covers byAnds byXor byXors byIte byItes gatesOf aloneAndPaired conclusions replace joinLeads joinAll sameLead round run closed tally answer
 table-computed = refl
 
 table-fits : all (λ (s : Starred). fits (s .nets) (s .clauses)) starred ≡ true

@@ -1,12 +1,12 @@
 -- The theorems about the computed answer to a list of nets 1 to V under any round limit.
 -- Assumes nothing.
 use mathlib.Core.Path.{_≡_, sym, _∙_, subst}
-use mathlib.Core.Logic.{inl, _↔_}
+use mathlib.Core.Logic.{inl, _↔_, _≢_}
 use mathlib.Core.Bool.{Bool}
 use mathlib.Core.List.{List, List·Memᴰ}
 use Prim.Native.Nat.{ℕ, suc, _*_, _≤_, _<_}
 use lib.ListN.{getD}
-use Rattle.rules.specs.declared.Verdict.the-variants.{Contradiction, Settled}
+use Rattle.rules.specs.declared.Verdict.the-variants.{Contradiction, Settled, Unfinished}
 use Rattle.clauses.specs.Listing.{Fits}
 use Rattle.clauses.specs.Renaming.{Renames, Images}
 use Rattle.clauses.proofs.Extended.{extension}
@@ -19,7 +19,7 @@ use Rattle.rules.specs.Starred.{Starred, starred}
 use Rattle.rules.proofs.Closing.{Ran, settled≢contradiction, closed-ran}
 use Rattle.rules.proofs.Answers.{ran-answer, is-answer-once, ran-joined}
 use Rattle.rules.proofs.Truth.{satisfied-apart, ran-true}
-use Rattle.rules.proofs.Bounds.{settled-bounded, ends-bounded, ends-beyond}
+use Rattle.rules.proofs.Bounds.{settled-bounded, ends-bounded, ends-finished, ends-beyond}
 use Rattle.rules.proofs.RenamedAnswers.{ran-renamed, renamed-agrees}
 use Rattle.rules.proofs.Starred.{starred-computed, starred-fits}
 
@@ -56,6 +56,10 @@ module _ (v : ℕ) (cs : List (List ℕ)) (fit : Fits v cs) (limit : ℕ) where
   -- a contradiction at most V + 1, and nothing takes more.
   pub rounds-bound : answer v cs limit .rounds ≤ suc v
   rounds-bound = ends-bounded v cs fit (answer-exact .ends)
+
+-- A limit over V is enough: the list is settled, or there is a contradiction.
+pub answer-finished : (v : ℕ) (cs : List (List ℕ)) → Fits v cs → (limit : ℕ) → v < limit → answer v cs limit .verdict ≢ Unfinished
+answer-finished v cs fit limit h e = ends-finished v cs fit h (rw e at (answer-exact v cs fit limit .ends))
 
 -- Every limit over V has the same answer.
 pub answer-beyond : (v : ℕ) (cs : List (List ℕ)) → Fits v cs → (limit more : ℕ) → v < limit → limit ≤ more → answer v cs limit ≡ answer v cs more

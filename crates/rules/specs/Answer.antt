@@ -25,7 +25,7 @@ pub record Answer : Type 0 where
   -- entry w - 1 for net w
   pub leads : List ℕ
 
--- the lead of net w in a grouping
+-- the lead of net w in a grouping: the representative of its class
 pub data Lead (G : ℕ → ℕ → Type 0) (w : ℕ) : ℕ → Type 0 where
   -- 'The lead of a net is T or F if joined to a constant,'
   to-false : G (2 * w) 0 → Lead G w 0

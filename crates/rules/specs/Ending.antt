@@ -6,7 +6,7 @@ use Rattle.rules.specs.declared.Verdict.{Verdict}
 use Rattle.rules.specs.declared.Verdict.the-variants.{Contradiction, Settled, Unfinished}
 use Rattle.rules.specs.Grouping.{After}
 
--- after n rounds 'the next would change nothing'
+-- after n rounds 'the next would change nothing': a fixpoint, which the paper calls settled
 abbrev pub Still : List (List ℕ) → ℕ → Type 0
 Still cs n = (a b : ℕ) → After cs (suc n) a b → After cs n a b
 

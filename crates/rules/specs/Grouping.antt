@@ -1,4 +1,5 @@
--- Groupings: what a round adds is closed under equivalence, and the grouping after each round.
+-- Groupings: what a round adds is closed under equivalence, and the grouping after each round. A grouping is an equivalence relation on literals, in
+-- congruence closure the current set of merges; joining is merging; a round is one synchronous step of the closure.
 -- Assumes nothing.
 use mathlib.Core.Logic.{_⊎_}
 use mathlib.Core.List.{List}

@@ -20,7 +20,7 @@ use Rattle.sheet.specs.Sheet.{sheetText}
 use Rattle.sheet.specs.declared.write.Writing.{Writing}
 use Rattle.sheet.specs.declared.write.Writing.the-variants.{Written, Refused}
 use Rattle.sheet.specs.Writing as Writing
-use Rattle.sheet.specs.Writing.{writing}
+use Rattle.sheet.specs.Writing.{writingTests, writing}
 use Rattle.sheet.specs.Comparing.{Outcome, emptyRow, sheetOf, comparing}
 
 module _ (input text : List ℕ) (x : Reading) (e : x ≡ reading input emptyRow .result) where
@@ -50,7 +50,7 @@ written-within : (v c : ℕ) (row : List ℤ) (limit : ℕ) (leads work text : L
 unfolding writing Writing.refused Writing.written BytesWithin
 written-within v c row limit leads work text =
     decide-either (Writing.refused leads work text) (Writing.written v leads work text a) (λ (o : Writing.Outcome). BytesWithin (o .result) (o .text))
-    (λ r. refused-within r text) written _
+    (λ r. refused-within r text) written (writingTests v c row limit leads work text)
   where
     a : Answer
     a = answer v (clausesOf row) limit

@@ -10,16 +10,16 @@ use borrow.Author.Tests.{eqb-true, eqb-false}
 use borrow.Table.Steps.{cases}
 use lib.Dec.{eqb}
 use lib.ListN.{length, length-append, replicate}
-use Rattle.clauses.specs.Bytes.{lf, minus, isDigit, every, front, behind}
+use Rattle.clauses.specs.Bytes.{comma, lf, minus, isDigit, every, front, behind}
 use Rattle.clauses.specs.Code.{net}
-use Rattle.clauses.specs.Number.{value, decimal}
+use Rattle.clauses.specs.Number.{value, decimal, field}
 use Rattle.clauses.proofs.Splitting.{every-head, every-weaken, front-stop, behind-stop}
 use Rattle.clauses.proofs.Numerals.{decimal-numeral, Numeral}
 use Rattle.gates.specs.Sign.{isInverse}
 use Rattle.rules.specs.declared.Verdict.{Verdict}
 use Rattle.rules.specs.declared.Verdict.the-variants.{Contradiction, Settled, Unfinished}
 use Rattle.rules.specs.Answer.{Answer, noLead}
-use Rattle.sheet.specs.Sheet.{comma, namesLine, verdictText, field, numbersText, valuesLine, leadText, netLine, netLeadLine, netLines, leadLines, sheetText}
+use Rattle.sheet.specs.Sheet.{namesLine, verdictText, numbersText, valuesLine, leadText, netLine, netLeadLine, netLines, leadLines, sheetText}
 use Rattle.sheet.proofs.Lengths.{Small, AllSmall, more}
 
 -- Numbers
@@ -32,7 +32,6 @@ decimal-same n m hn hm e = sym (numeral n hn .worth) ∙ ap (value 0) e ∙ nume
 
 -- two numbers, each ended by a byte that is no digit
 field-same : (n m end : ℕ) (r s : List ℕ) → isDigit end ≡ false → n < 10 ^ 10 → m < 10 ^ 10 → field n end ++ r ≡ field m end ++ s → (n ≡ m) × (r ≡ s)
-unfolding field
 field-same n m end r s d hn hm e = (decimal-same n m hn hm fronts, rests)
   where
     whole : decimal n ++ (end ∷ r) ≡ decimal m ++ (end ∷ s)
@@ -135,7 +134,6 @@ unfolding isDigit
 lf-no-digit = refl
 
 field-not-empty : (n end : ℕ) (l : List ℕ) → n < 10 ^ 10 → [] ≢ field n end ++ l
-unfolding field
 field-not-empty n end l h e =
     omega (arith, ap length e, length-append (decimal n ++ (end ∷ [])) l, length-append (decimal n) (end ∷ []))
 

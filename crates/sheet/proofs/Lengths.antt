@@ -3,50 +3,26 @@
 use mathlib.Core.Path.{_≡_}
 use mathlib.Core.Logic.{_≢_}
 use mathlib.Core.List.{List, [], _∷_}
-use Prim.Native.Nat.{ℕ, suc, _+_, _*_, _/_, _≤_, _<_}
-use native.Mathlib.Decide.{decLt}
+use Prim.Native.Nat.{ℕ, suc, _+_, _*_, _≤_, _<_}
 use native.Mathlib.Omega.{arith}
 use borrow.Table.Steps.{cases}
 use lib.Dec.{eqb}
 use lib.ListN.{length, length-append}
-use Rattle.clauses.specs.Bytes.{lf}
+use Rattle.clauses.specs.Bytes.{comma, lf}
 use Rattle.clauses.specs.Code.{net}
 use Rattle.clauses.specs.Number.{decimal}
-use Rattle.clauses.proofs.Decimals.{decimal-length, length-digit, length-more}
+use Rattle.clauses.proofs.Decimals.{decimal-length}
+use Rattle.clauses.proofs.Numerals.{decimal-numeral}
 use Rattle.gates.specs.Sign.{isInverse}
 use Rattle.rules.specs.declared.Verdict.{Verdict}
 use Rattle.rules.specs.declared.Verdict.the-variants.{Contradiction, Settled, Unfinished}
 use Rattle.rules.specs.Answer.{Answer}
-use Rattle.sheet.specs.Sheet.{comma, namesLine, verdictText, valuesLine, leadText, netLine, netLeadLine, netLines, leadLines, sheetText}
+use Rattle.sheet.specs.Sheet.{namesLine, verdictText, valuesLine, leadText, netLine, netLeadLine, netLines, leadLines, sheetText}
 use Rattle.sheet.proofs.Texts.{numbers-length, values-length, sheet-length, net-length}
 
 -- a number of at most four digits
 decimal-short : (n : ℕ) → n < 10000 → length (decimal n) ≤ 4
-decimal-short n h = four n h
-  where
-    one : (m : ℕ) → m < 10 → length (decimal m) ≤ 1
-    one m k = omega (arith, length-digit m k)
-
-    two : (m : ℕ) → m < 100 → length (decimal m) ≤ 2
-    two m k = go (decLt m 10)
-      where
-        go : Dec (m < 10) → length (decimal m) ≤ 2
-        go (yes q) = omega (arith, one m q)
-        go (no q) = omega (arith, length-more m (omega arith) (omega arith), one (m / 10) (omega arith))
-
-    three : (m : ℕ) → m < 1000 → length (decimal m) ≤ 3
-    three m k = go (decLt m 10)
-      where
-        go : Dec (m < 10) → length (decimal m) ≤ 3
-        go (yes q) = omega (arith, one m q)
-        go (no q) = omega (arith, length-more m (omega arith) (omega arith), two (m / 10) (omega arith))
-
-    four : (m : ℕ) → m < 10000 → length (decimal m) ≤ 4
-    four m k = go (decLt m 10)
-      where
-        go : Dec (m < 10) → length (decimal m) ≤ 4
-        go (yes q) = omega (arith, one m q)
-        go (no q) = omega (arith, length-more m (omega arith) (omega arith), three (m / 10) (omega arith))
+decimal-short n h = decimal-numeral n (omega arith) .few-figures 3 (omega arith)
 
 -- a code of T, F or a literal of a net with at most four digits
 abbrev pub Small : ℕ → Type 0
@@ -76,7 +52,7 @@ verdict-short Contradiction = omega arith
 verdict-short Settled = omega arith
 verdict-short Unfinished = omega arith
 
-values-short : (v : ℕ) (a : Answer) → length (valuesLine v a) ≤ 80
+values-short : (v : ℕ) (a : Answer) → length (valuesLine v a) ≤ 140
 values-short v a =
     omega (
       arith,

@@ -3,4 +3,5 @@ pub mod Lengths
 pub mod Determined
 pub mod Written
 pub mod Theorems
+pub mod CompareTheorems
 pub mod Compared

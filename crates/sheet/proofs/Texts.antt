@@ -9,12 +9,12 @@ use native.Mathlib.Omega.{arith}
 use borrow.Author.Tests.{eq-eqb, ne-eqb}
 use lib.ListN.{length, getD, take, drop, length-append, take-append-drop}
 use lib.Seq.{take-suc, take-all, length-take-le, drop-cons}
-use Rattle.clauses.specs.Bytes.{lf, minus}
+use Rattle.clauses.specs.Bytes.{comma, lf, minus}
 use Rattle.clauses.specs.Number.{decimal}
 use Rattle.gates.specs.Sign.{isInverse}
 use Rattle.closure.specs.declared.close.Summary.{Summary}
 use Rattle.rules.specs.Answer.{Answer}
-use Rattle.sheet.specs.Sheet.{comma, namesLine, verdictText, field, numbersText, valuesLine, leadText, netLine, netLines, leadLines, sheetText, answerOf}
+use Rattle.sheet.specs.Sheet.{namesLine, verdictText, numbersText, valuesLine, leadText, netLine, netLines, leadLines, sheetText, answerOf}
 
 module _ (code : ℕ) where
   pub lead-false : code ≡ 0 → leadText code ≡ 70 ∷ []
@@ -36,7 +36,7 @@ module _ (code : ℕ) where
       lead-plain e = rw (ne-eqb _ _ p, ne-eqb _ _ q, ne-eqb _ _ e)
 
 pub net-length : (w code : ℕ) → length (netLine w code) ≡ length (decimal w ++ (comma ∷ [])) + (length (leadText code) + 1)
-unfolding netLine field
+unfolding netLine
 net-length w code = length-append (decimal w ++ (comma ∷ [])) (leadText code ++ (lf ∷ [])) ∙ ap (λ (n : ℕ). length (decimal w ++ (comma ∷ [])) + n) (length-append (leadText code) (lf ∷ []))
 
 nets-append : (xs ys : List ℕ) (w : ℕ) → netLines w (xs ++ ys) ≡ netLines w xs ++ netLines (w + length xs) ys
@@ -70,7 +70,7 @@ word n end = length (decimal n ++ (end ∷ []))
 
 pub numbers-length : (v : ℕ) (a : Answer)
     → length (numbersText v a) ≡ word (a .rounds) comma + (word v comma + (word (a .ands) comma + (word (a .xors) comma + (word (a .ites) comma + word (a .groups) lf))))
-unfolding numbersText field
+unfolding numbersText
 numbers-length v a = simp length-append
 
 pub values-length : (v : ℕ) (a : Answer) → length (valuesLine v a) ≡ length (verdictText (a .verdict)) + (1 + length (numbersText v a))

@@ -32,7 +32,7 @@ use Rattle.closure.proofs.ClosingTests.{closing-rounds, rounds-accepted, never-
 use Rattle.closure.proofs.ClosingTheorems.{answers-is, closing-exact, leads-length}
 use Rattle.sheet.specs.declared.write.Writing.the-variants.{Written}
 use Rattle.sheet.specs.Sheet.{sheetText, answerOf}
-use Rattle.sheet.specs.Writing.{minBuffer, sheetBufferTooShort, refused, written, writing}
+use Rattle.sheet.specs.Writing.{minBuffer, sheetBufferTooShort, refused, written, writingTests, writing}
 use Rattle.sheet.proofs.Lengths.{AllSmall, none, more, Small, sheet-fits}
 
 -- The leads of an answer are small
@@ -62,14 +62,14 @@ module _ (v c : ℕ) (row : List ℤ) (limit : ℕ) (leads work text : List ℕ)
   a = answer v (clausesOf row) limit
 
   pub writing-list : (r : Refusal) → checkList v c row (length leads) (length work) ≡ K.Refused r → writing v c row limit leads work text ≡ refused leads work text r
-  unfolding writing checkList
+  unfolding writing writingTests checkList
   writing-list r h =
       decide-append (refused leads work text) (written v leads work text a) (listTests v c row (length leads) (length work)) (sheetBufferTooShort text ∷ tooManyRounds v a ∷ [])
       ∙ decide-refused (refused leads work text) _ (listTests v c row (length leads) (length work)) r h
 
   module _ (h : checkList v c row (length leads) (length work) ≡ K.Passed) where
     behind-list : writing v c row limit leads work text ≡ decide (refused leads work text) (written v leads work text a) (sheetBufferTooShort text ∷ tooManyRounds v a ∷ [])
-    unfolding writing checkList
+    unfolding writing writingTests checkList
     behind-list =
         decide-append (refused leads work text) (written v leads work text a) (listTests v c row (length leads) (length work)) (sheetBufferTooShort text ∷ tooManyRounds v a ∷ [])
         ∙ decide-passed (refused leads work text) _ (listTests v c row (length leads) (length work)) h

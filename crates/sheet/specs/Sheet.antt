@@ -4,17 +4,14 @@ use mathlib.Core.Bool.{cond}
 use mathlib.Core.List.{List, [], _∷_, _++_}
 use Prim.Native.Nat.{ℕ, suc}
 use lib.Dec.{eqb}
-use Rattle.clauses.specs.Bytes.{lf, minus}
+use Rattle.clauses.specs.Bytes.{lf, comma, minus}
 use Rattle.clauses.specs.Code.{net}
-use Rattle.clauses.specs.Number.{decimal}
+use Rattle.clauses.specs.Number.{decimal, field}
 use Rattle.gates.specs.Sign.{isInverse}
 use Rattle.rules.specs.declared.Verdict.{Verdict}
 use Rattle.rules.specs.declared.Verdict.the-variants.{Contradiction, Settled, Unfinished}
 use Rattle.closure.specs.declared.close.Summary.{Summary}
 use Rattle.rules.specs.Answer.{Answer}
-
-abbrev pub comma : ℕ
-comma = 44
 
 -- 'a line of names': verdict,rounds,variables,ands,xors,ites,groups
 unfoldable pub namesLine : List ℕ
@@ -26,10 +23,6 @@ unfoldable pub verdictText : Verdict → List ℕ
 verdictText Contradiction = 99 ∷ 111 ∷ 110 ∷ 116 ∷ 114 ∷ 97 ∷ 100 ∷ 105 ∷ 99 ∷ 116 ∷ 105 ∷ 111 ∷ 110 ∷ []
 verdictText Settled = 115 ∷ 101 ∷ 116 ∷ 116 ∷ 108 ∷ 101 ∷ 100 ∷ []
 verdictText Unfinished = 117 ∷ 110 ∷ 102 ∷ 105 ∷ 110 ∷ 105 ∷ 115 ∷ 104 ∷ 101 ∷ 100 ∷ []
-
--- a number and the byte after it
-unfoldable pub field : ℕ → ℕ → List ℕ
-field n end = decimal n ++ (end ∷ [])
 
 -- 'rounds used, V, the three gate counts, groups'
 unfoldable pub numbersText : ℕ → Answer → List ℕ

@@ -4,14 +4,14 @@ use mathlib.Core.List.{List, [], _∷_, _++_}
 use Prim.Native.Nat.{ℕ}
 use lib.Dec.{ltb}
 use lib.IntN.{ℤ}
-use lib.ListN.{length, drop, replicate}
+use lib.ListN.{length, drop}
 use Rattle.clauses.specs.Clause.{clausesOf}
 use Rattle.clauses.specs.Refusal.{Test, decide}
 use Rattle.clauses.specs.declared.refusal.Refusal.{Refusal}
 use Rattle.clauses.specs.declared.refusal.Refusal.the-variants.{BufferTooShort}
 use Rattle.rules.specs.Answer.{Answer}
 use Rattle.rules.specs.Compute.{answer}
-use Rattle.closure.specs.Closing.{maxWork, listTests, tooManyRounds}
+use Rattle.closure.specs.Closing.{accepted, listTests, tooManyRounds}
 use Rattle.sheet.specs.Sheet.{sheetText}
 use Rattle.sheet.specs.declared.write.Writing.{Writing}
 use Rattle.sheet.specs.declared.write.Writing.the-variants.{Written, Refused}
@@ -40,14 +40,16 @@ unfoldable pub written : ℕ → List ℕ → List ℕ → List ℕ → Answer �
 written v leads work text a =
     record {
       result = Written (length (sheetText v a));
-      leads = a .leads ++ drop v leads;
-      work = replicate maxWork 0 ++ drop maxWork work;
+      leads = accepted v leads work a .leads;
+      work = accepted v leads work a .work;
       text = sheetText v a ++ drop (length (sheetText v a)) text;
     }
 
 -- 'the sheet 5 to 14: it is handed the clause list, a round limit and rows, never finished leads'
+unfoldable pub writingTests : ℕ → ℕ → List ℤ → ℕ → List ℕ → List ℕ → List ℕ → List Test
+writingTests v c row limit leads work text =
+    listTests v c row (length leads) (length work) ++ (sheetBufferTooShort text ∷ tooManyRounds v (answer v (clausesOf row) limit) ∷ [])
+
 unfoldable pub writing : ℕ → ℕ → List ℤ → ℕ → List ℕ → List ℕ → List ℕ → Outcome
 writing v c row limit leads work text =
-    let a = answer v (clausesOf row) limit in
-    decide (refused leads work text) (written v leads work text a)
-    (listTests v c row (length leads) (length work) ++ (sheetBufferTooShort text ∷ tooManyRounds v a ∷ []))
+    decide (refused leads work text) (written v leads work text (answer v (clausesOf row) limit)) (writingTests v c row limit leads work text)

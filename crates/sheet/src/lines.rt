@@ -29,12 +29,12 @@ fn put_numbers(text: &mut [u8], at: usize, v: u32, s: Summary) -> usize
     requires { ⌜ at + length (numbersText v (answerOf s [])) ≤ length (now text) ⌝ }
     ensures { λ r. ⌜ Wrote (now (text .entry)) at (numbersText v (answerOf s [])) (now (text .exit)) r ⌝ }
 {
-    let nets = put_word(text, at, s.rounds, b',');
-    let ands = put_word(text, nets, v, b',');
-    let xors = put_word(text, ands, s.ands, b',');
-    let ites = put_word(text, xors, s.xors, b',');
-    let groups = put_word(text, ites, s.ites, b',');
-    put_word(text, groups, s.groups, b'\n')
+    let nets = put_word(text, at, s.rounds as u64, b',');
+    let ands = put_word(text, nets, v as u64, b',');
+    let xors = put_word(text, ands, s.ands as u64, b',');
+    let ites = put_word(text, xors, s.xors as u64, b',');
+    let groups = put_word(text, ites, s.ites as u64, b',');
+    put_word(text, groups, s.groups as u64, b'\n')
 }
 
 // Puts the line of values.
@@ -61,9 +61,9 @@ fn put_lead(text: &mut [u8], at: usize, code: u32) -> usize
     }
     if code % 2 == 1 {
         let next = put(text, at, b'-');
-        return put_decimal(text, next, code / 2);
+        return put_decimal(text, next, (code / 2) as u64);
     }
-    put_decimal(text, at, code / 2)
+    put_decimal(text, at, (code / 2) as u64)
 }
 
 // Puts the line of a net.
@@ -71,7 +71,7 @@ fn put_net(text: &mut [u8], at: usize, w: u32, code: u32) -> usize
     requires { ⌜ at + length (netLine w code) ≤ length (now text) ⌝ }
     ensures { λ r. ⌜ Wrote (now (text .entry)) at (netLine w code) (now (text .exit)) r ⌝ }
 {
-    let lead = put_word(text, at, w, b',');
+    let lead = put_word(text, at, w as u64, b',');
     let end = put_lead(text, lead, code);
     put(text, end, b'\n')
 }

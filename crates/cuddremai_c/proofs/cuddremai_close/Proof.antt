@@ -1,7 +1,8 @@
 -- `cuddremai_c::cuddremai_close` meets its contract.
 -- Assumes nothing.
 use borrow.Author.Needs.{needs}
-use Rattle.cuddremai_c.proofs.Calls.{close-refused, close-accepted}
+use mathlib.Core.Path.{refl, ap}
+use Rattle.closure.specs.Closing as Below
 use Rattle.cuddremai_c.proofs.cuddremai_close.Statement.{statement}
 use Rattle.cuddremai_c.proofs.cuddremai_close.Tie as tie
 
@@ -30,7 +31,9 @@ same-length-2 : tie.Need-same-length-2
 same-length-2 c = search needs
 
 returns : tie.Need-returns
-returns c = close-refused (c .number .ensures) (c .before .place .ensures) (c .before .before .before .before .before .before .before .before .before .close .ensures) (c .before .before .before .r .given .1)
+returns c =
+    let told = c .before .before .before .before .before .before .before .before .before .close .ensures in
+    (rw (← ap (λ (o : Below.Outcome). o .result) told, c .before .before .before .r .given .1, c .number .ensures, c .before .place .ensures) refl, (ap (λ (o : Below.Outcome). o .leads) told, ap (λ (o : Below.Outcome). o .work) told))
 
 same-length-3 : tie.Need-same-length-3
 same-length-3 c = search needs
@@ -39,7 +42,9 @@ same-length-4 : tie.Need-same-length-4
 same-length-4 c = search needs
 
 returns-2 : tie.Need-returns-2
-returns-2 c = close-accepted _ (c .before .verdict-number .ensures) (c .before .before .before .before .before .before .before .before .before .close .ensures) (c .before .before .before .s .given .1)
+returns-2 c =
+    let told = c .before .before .before .before .before .before .before .before .before .close .ensures in
+    (rw (← ap (λ (o : Below.Outcome). o .result) told, c .before .before .before .s .given .1, c .before .verdict-number .ensures) refl, (ap (λ (o : Below.Outcome). o .leads) told, ap (λ (o : Below.Outcome). o .work) told))
 
 pub cuddremai-close-spec : {M : Type 1} → statement M
 cuddremai-close-spec =

@@ -1,7 +1,8 @@
 -- `cuddremai_c::cuddremai_compare` meets its contract.
 -- Assumes nothing.
 use borrow.Author.Needs.{needs}
-use Rattle.cuddremai_c.proofs.Calls.{compare-refused, compare-written}
+use mathlib.Core.Path.{refl, ap}
+use Rattle.sheet.specs.Comparing as Below
 use Rattle.cuddremai_c.proofs.cuddremai_compare.Statement.{statement}
 use Rattle.cuddremai_c.proofs.cuddremai_compare.Tie as tie
 
@@ -24,13 +25,17 @@ same-length : tie.Need-same-length
 same-length c = search needs
 
 returns : tie.Need-returns
-returns c = compare-refused (c .number .ensures) (c .before .place .ensures) (c .before .before .before .before .before .before .before .compare .ensures) (c .before .before .before .r .given .1)
+returns c =
+    let told = c .before .before .before .before .before .before .before .compare .ensures in
+    (rw (← ap (λ (o : Below.Outcome). o .result) told, c .before .before .before .r .given .1, c .number .ensures, c .before .place .ensures) refl, ap (λ (o : Below.Outcome). o .text) told)
 
 same-length-2 : tie.Need-same-length-2
 same-length-2 c = search needs
 
 returns-2 : tie.Need-returns-2
-returns-2 c = compare-written _ (c .before .before .before .before .before .compare .ensures) (c .before .n .given .1)
+returns-2 c =
+    let told = c .before .before .before .before .before .compare .ensures in
+    (rw (← ap (λ (o : Below.Outcome). o .result) told, c .before .n .given .1) refl, ap (λ (o : Below.Outcome). o .text) told)
 
 pub cuddremai-compare-spec : {M : Type 1} → statement M
 cuddremai-compare-spec =

@@ -1,7 +1,7 @@
 -- `cuddremai_c::cuddremai_print` meets its contract.
 -- Assumes nothing.
+use mathlib.Core.Path.{refl}
 use borrow.Author.Needs.{needs}
-use Rattle.cuddremai_c.proofs.Calls.{print-refused, print-written}
 use Rattle.cuddremai_c.proofs.cuddremai_print.Statement.{statement}
 use Rattle.cuddremai_c.proofs.cuddremai_print.Tie as tie
 
@@ -24,13 +24,17 @@ same-length : tie.Need-same-length
 same-length c = search needs
 
 returns : tie.Need-returns
-returns c = print-refused (c .number .ensures) (c .before .place .ensures) (c .before .before .before .before .before .before .before .print .ensures) (c .before .before .before .r .given .1)
+returns c =
+    let told = c .before .before .before .before .before .before .before .print .ensures in
+    (rw (← told .0, c .before .before .before .r .given .1, c .number .ensures, c .before .place .ensures) refl, told .1)
 
 same-length-2 : tie.Need-same-length-2
 same-length-2 c = search needs
 
 returns-2 : tie.Need-returns-2
-returns-2 c = print-written _ (c .before .before .before .before .before .print .ensures) (c .before .n .given .1)
+returns-2 c =
+    let told = c .before .before .before .before .before .print .ensures in
+    (rw (← told .0, c .before .n .given .1) refl, told .1)
 
 pub cuddremai-print-spec : {M : Type 1} → statement M
 cuddremai-print-spec =

@@ -1,7 +1,7 @@
 -- `cuddremai_c::cuddremai_read` meets its contract.
 -- Assumes nothing.
+use mathlib.Core.Path.{refl}
 use borrow.Author.Needs.{needs}
-use Rattle.cuddremai_c.proofs.Calls.{read-refused, read-accepted}
 use Rattle.cuddremai_c.proofs.cuddremai_read.Statement.{statement}
 use Rattle.cuddremai_c.proofs.cuddremai_read.Tie as tie
 
@@ -24,13 +24,17 @@ same-length : tie.Need-same-length
 same-length c = search needs
 
 returns : tie.Need-returns
-returns c = read-refused (c .number .ensures) (c .before .place .ensures) (c .before .before .before .before .before .before .read .ensures) (c .before .before .before .r .given .1)
+returns c =
+    let told = c .before .before .before .before .before .before .read .ensures in
+    (rw (← told .0, c .before .before .before .r .given .1, c .number .ensures, c .before .place .ensures) refl, told .1)
 
 same-length-2 : tie.Need-same-length-2
 same-length-2 c = search needs
 
 returns-2 : tie.Need-returns-2
-returns-2 c = read-accepted _ _ _ (c .before .before .before .before .read .ensures) (c .before .s .given .1)
+returns-2 c =
+    let told = c .before .before .before .before .read .ensures in
+    (rw (← told .0, c .before .s .given .1) refl, told .1)
 
 pub cuddremai-read-spec : {M : Type 1} → statement M
 cuddremai-read-spec =

@@ -1,7 +1,8 @@
 -- `cuddremai_c::cuddremai_sheet` meets its contract.
 -- Assumes nothing.
 use borrow.Author.Needs.{needs}
-use Rattle.cuddremai_c.proofs.Calls.{sheet-refused, sheet-written}
+use mathlib.Core.Path.{refl, ap}
+use Rattle.sheet.specs.Writing as Below
 use Rattle.cuddremai_c.proofs.cuddremai_sheet.Statement.{statement}
 use Rattle.cuddremai_c.proofs.cuddremai_sheet.Tie as tie
 
@@ -30,7 +31,9 @@ same-length-3 : tie.Need-same-length-3
 same-length-3 c = search needs
 
 returns : tie.Need-returns
-returns c = sheet-refused (c .number .ensures) (c .before .place .ensures) (c .before .before .before .before .before .before .before .before .before .before .before .write .ensures) (c .before .before .before .r .given .1)
+returns c =
+    let told = c .before .before .before .before .before .before .before .before .before .before .before .write .ensures in
+    (rw (← ap (λ (o : Below.Outcome). o .result) told, c .before .before .before .r .given .1, c .number .ensures, c .before .place .ensures) refl, (ap (λ (o : Below.Outcome). o .leads) told, (ap (λ (o : Below.Outcome). o .work) told, ap (λ (o : Below.Outcome). o .text) told)))
 
 same-length-4 : tie.Need-same-length-4
 same-length-4 c = search needs
@@ -42,7 +45,9 @@ same-length-6 : tie.Need-same-length-6
 same-length-6 c = search needs
 
 returns-2 : tie.Need-returns-2
-returns-2 c = sheet-written _ (c .before .before .before .before .before .before .before .before .before .write .ensures) (c .before .n .given .1)
+returns-2 c =
+    let told = c .before .before .before .before .before .before .before .before .before .write .ensures in
+    (rw (← ap (λ (o : Below.Outcome). o .result) told, c .before .n .given .1) refl, (ap (λ (o : Below.Outcome). o .leads) told, (ap (λ (o : Below.Outcome). o .work) told, ap (λ (o : Below.Outcome). o .text) told)))
 
 pub cuddremai-sheet-spec : {M : Type 1} → statement M
 cuddremai-sheet-spec =

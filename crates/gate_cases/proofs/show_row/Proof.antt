@@ -5,7 +5,7 @@ use native.Mathlib.Omega.{arith}
 use denote.Ref.{now}
 use borrow.Author.Needs.{needs}
 use Rattle.clauses.specs.Tally.{tallyOf}
-use Rattle.clauses.specs.declared.tally.Tally.{Tally}
+use Rattle.clauses.specs.declared.tally.EntryTally.{EntryTally}
 use Rattle.gates.proofs.Entries.{entries-small, entries-ended}
 use Rattle.gate_cases.proofs.show_row.Statement.{statement}
 use Rattle.gate_cases.proofs.show_row.Tie as tie
@@ -25,8 +25,8 @@ show-counts-requires c κs =
     let tally = c .before .before .before .tally-row .ensures in (
       omega (arith, c .before .before .before .before .if1 .left),
       (
-        entries-small 1024 (now (c .before .before .before .before .before .args .row)) (omega arith) (omega (arith, c .before .if2 .left, ap (λ (t : Tally). t .within) tally)),
-        entries-ended _ (sym (ap (λ (t : Tally). t .ended) tally) ∙ c .if3 .taken),
+        entries-small 1024 (now (c .before .before .before .before .before .args .row)) (omega arith) (omega (arith, c .before .if2 .left, ap (λ (t : EntryTally). t .within) tally)),
+        entries-ended _ (sym (ap (λ (t : EntryTally). t .ended) tally) ∙ c .if3 .taken),
       ),
     )
 

@@ -26,6 +26,9 @@ plain c = signed-plain (entry (c .before .before .before .before)) _ (c .before 
 magnitude-at-requires : tie.Need-magnitude-at-requires
 magnitude-at-requires c κs = search needs
 
+cast-decimal-length : tie.Need-cast-decimal-length
+cast-decimal-length c = search needs
+
 decimal-length-requires : tie.Need-decimal-length-requires
 decimal-length-requires c κs = search needs
 
@@ -47,6 +50,7 @@ number-length-spec =
     tie.close
     (tie.spec
     magnitude-at-requires
+    cast-decimal-length
     decimal-length-requires
     is-negative-at-requires
     add-result

@@ -32,6 +32,9 @@ is-negative-at-requires c κs = search needs
 put-requires : tie.Need-put-requires
 put-requires c κs = omega (arith, c .before .before .before .before .before .pre .1, ap length (with-minus (c .before)))
 
+cast-put-decimal : tie.Need-cast-put-decimal
+cast-put-decimal c = search needs
+
 put-decimal-requires : tie.Need-put-decimal-requires
 put-decimal-requires c κs =
     omega (arith, c .before .before .before .before .before .before .before .before .before .pre .1, ap length (with-minus (c .before .before .before .before .before)), c .before .before .before .put .ensures .end, c .before .before .before .put .kept .0)
@@ -41,6 +44,9 @@ same-length c = search needs
 
 returns : tie.Need-returns
 returns c = rw (with-minus (c .before .before .before .before .before .before .before .before)) (wrote-then (c .before .before .before .before .before .before .put .ensures) (c .before .before .put-decimal .ensures))
+
+cast-put-decimal-2 : tie.Need-cast-put-decimal-2
+cast-put-decimal-2 c = search needs
 
 put-decimal-requires-2 : tie.Need-put-decimal-requires-2
 put-decimal-requires-2 c κs = omega (arith, c .before .before .before .before .before .pre .1, ap length (plain (c .before)))
@@ -58,9 +64,11 @@ print-number-spec =
     magnitude-at-requires
     is-negative-at-requires
     put-requires
+    cast-put-decimal
     put-decimal-requires
     same-length
     returns
+    cast-put-decimal-2
     put-decimal-requires-2
     same-length-2
     returns-2)

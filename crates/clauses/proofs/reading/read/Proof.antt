@@ -2,7 +2,7 @@
 -- Assumes nothing.
 use Rattle.clauses.specs.declared.refusal.Refusal.the-variants.{TextTooLong}
 use Prim.Native.Nat.{ℕ}
-use Rattle.clauses.proofs.ReadingTests.{header-malformed, header-sized, refused-is, text-long}
+use Rattle.clauses.proofs.ReadingTests.{header-sized, heading-malformed, refused-is, text-long}
 use Rattle.clauses.specs.Reading.{Outcome}
 use denote.Ref.{now}
 use lib.IntN.{ℤ}
@@ -34,7 +34,7 @@ read-body-requires : tie.Need-read-body-requires
 read-body-requires c κs = (rw (c .before .before .v .given .1) at (c .before .before .before .before .find-header .ensures)) .3
 
 returns-2 : tie.Need-returns-2
-returns-2 c = refused-is (row (c .before .before .before .before .before .before)) _ (header-malformed (text (c .before .before .before .before .before .before)) (row (c .before .before .before .before .before .before)) (c .before .before .before .before .if1 .left) _ (rw (c .before .p .given .1) at (c .before .before .before .find-header .ensures)))
+returns-2 c = refused-is (row (c .before .before .before .before .before .before)) _ (heading-malformed (text (c .before .before .before .before .before .before)) (row (c .before .before .before .before .before .before)) (c .before .before .before .before .if1 .left) _ (rw (c .before .p .given .1) at (c .before .before .before .find-header .ensures)))
 
 same-length : tie.Need-same-length
 same-length c = search needs

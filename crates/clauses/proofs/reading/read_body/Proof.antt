@@ -1,7 +1,7 @@
 -- `clauses::reading::read_body` meets its contract.
 -- Assumes nothing.
 use Prim.Native.Nat.{ℕ}
-use Rattle.clauses.proofs.ReadingTests.{body-malformed, body-numbers, refused-is, scanned-malformed, scanned-numbers}
+use Rattle.clauses.proofs.ReadingTests.{body-refused, body-numbers, refused-is, scanned-numbers}
 use Rattle.clauses.proofs.Scans.{sets-keep}
 use Rattle.clauses.specs.Bytes.{Stretch}
 use Rattle.clauses.specs.Reading.{Outcome, body}
@@ -25,8 +25,8 @@ slice-aggregate-scan-numbers c = search needs
 scan-numbers-requires : tie.Need-scan-numbers-requires
 scan-numbers-requires c κs = search needs
 
-enum-known-p : tie.Need-enum-known-p
-enum-known-p c = search needs
+enum-known-r : tie.Need-enum-known-r
+enum-known-r c = search needs
 
 enum-known-t : tie.Need-enum-known-t
 enum-known-t c = search needs
@@ -42,7 +42,7 @@ unfolding scannedFrom
 returns c =
     let s = c .before .before .before .before .before .before .before in
     refused-is (now (s .args .row)) _
-    (body-malformed (now (s .args .row)) _ (body (listed s)) _ (scanned-malformed (s .args .v) (listed s) _ (sym (c .before .before .before .before .scan-numbers .ensures .0) ∙ c .before .p .given .1)))
+    (body-refused (now (s .args .row)) _ (s .args .v) (listed s) _ (sym (c .before .before .before .before .scan-numbers .ensures .0) ∙ c .before .r .given .1))
 
 same-length : tie.Need-same-length
 same-length c = search needs
@@ -63,7 +63,7 @@ read-body-spec =
     (tie.spec
     slice-aggregate-scan-numbers
     scan-numbers-requires
-    enum-known-p
+    enum-known-r
     enum-known-t
     slice-aggregate-read-numbers
     read-numbers-requires

@@ -1,6 +1,6 @@
 -- `clauses::reading::read_numbers` meets its contract.
 -- Assumes nothing.
-use Rattle.clauses.specs.declared.tally.Tally.{Tally}
+use Rattle.clauses.specs.declared.tally.EntryTally.{EntryTally}
 use Prim.Native.Nat.{_≤_}
 use Rattle.clauses.proofs.ReadingTests.{numbers-accepted, numbers-entries, numbers-short, numbers-sizes}
 use Rattle.clauses.proofs.Tests.{sizes-within}
@@ -25,7 +25,7 @@ size c = record { nets = c .args .v; clauses = c .args .c }
 -- the tally's number of entries
 count : (c : tie.Start) (numbers : List ℤ) → c .args .t ≡ tallyOf (c .args .v) numbers → c .args .t .entries ≡ length numbers
 unfolding tallyOf
-count c numbers e = ap (λ (t : Tally). t .entries) e
+count c numbers e = ap (λ (t : EntryTally). t .entries) e
 
 room : (c : tie.Else1) (numbers : List ℤ) → c .before .args .t ≡ tallyOf (c .before .args .v) numbers → length numbers ≤ length (row (c .before))
 room c numbers e = omega (arith, count (c .before) numbers e, c .if1 .left)

@@ -1,85 +1,69 @@
--- `gates::ites::count_mates` meets its contract: all halves with literal x and that output are in one chain.
+-- `gates::ites::count_mates` meets its contract.
 -- Assumes nothing.
-use Prim.Native.Nat.{_+_, _-_, _≤_}
+use mathlib.Core.Path.{sym, _∙_}
 use native.Mathlib.Omega.{arith}
-use lib.ListN.{length}
+use borrow.Author.Needs.{needs}
 use denote.Ref.{now}
-use Rattle.gates.proofs.HalfChains.{Walk, walk-begin, walk-on, walk-falls, walk-few, walk-end}
+use Rattle.gates.proofs.MateCounts.{size-mates, one-on, one-off}
+use Rattle.gates.proofs.Sizes.{size-few}
 use Rattle.gates.proofs.ites.count_mates.Statement.{statement}
 use Rattle.gates.proofs.ites.count_mates.Tie as tie
 
-abbrev Inv-loop : tie.InvT-loop
-Inv-loop codes heads chain x y z n₀ b k₀ n k = Walk codes (length heads) x y z n k
+mul-n : tie.Need-mul-n
+mul-n c = omega (arith, c .before .before .before .before .pre .1 .1 .0 .0, c .before .before .before .before .good)
 
-abbrev μ-loop : tie.MeasureT-loop
-μ-loop codes heads chain x y z n₀ b k₀ n k = k
+shared-slice-read-n : tie.Need-shared-slice-read-n
+shared-slice-read-n c = c .before .before .before .before .before .pre .1 .1 .0 .0
 
-half-bucket-requires : tie.Need-half-bucket-requires Inv-loop μ-loop
-half-bucket-requires c κs = (c .before .before .before .pre .1 .0 .some, c .before .before .before .pre .1 .1 .1)
+returns : tie.Need-returns
+returns c = (omega (arith, size-mates (now (c .before .before .before .before .before .before .args .codes)) (c .before .before .before .before .before .before .args .x) (c .before .before .before .before .before .before .args .y) (c .before .before .before .before .before .before .args .z), c .before .before .before .before .before .before .pre .1 .1 .1 .0 .size (c .before .before .before .before .before .before .args .y), c .if1 .taken), omega arith)
 
-mul-k : tie.Need-mul-k Inv-loop μ-loop
-mul-k c = omega (arith, c .half-bucket .ensures .1, c .before .before .before .before .good)
+mul-if3 : tie.Need-mul-if3
+mul-if3 c = omega (arith, c .before .before .before .before .before .before .before .pre .1 .1 .0 .1, c .before .before .before .before .before .before .before .good)
 
-shared-slice-read-k : tie.Need-shared-slice-read-k Inv-loop μ-loop
-shared-slice-read-k c = c .before .half-bucket .ensures .1
+shared-slice-read-if3 : tie.Need-shared-slice-read-if3
+shared-slice-read-if3 c = c .before .before .before .before .before .before .before .before .pre .1 .1 .0 .1
 
-cast-k : tie.Need-cast-k Inv-loop μ-loop
-cast-k c = omega (arith, c .shared-slice-known4 .given (c .before .half-bucket .result))
+returns-2 : tie.Need-returns-2
+returns-2 c = (one-on _ _ _ _ (sym (c .before .before .before .before .before .before .before .before .before .pre .1 .1 .1 .0 .size (c .before .before .before .before .before .before .before .before .before .args .y)) ∙ c .before .before .if2 .taken) _ (c .before .before .before .before .before .before .before .before .before .pre .1 .1 .1 .0 .some (c .before .before .before .before .before .before .before .before .before .args .y) (omega (arith, c .before .before .if2 .taken))) (c .if3 .taken), omega arith)
 
-loop-holds : tie.Need-loop-holds Inv-loop μ-loop
-loop-holds c = walk-begin _ _ _ _ _ (now (c .before .before .before .before .before .args .heads)) (now (c .before .before .before .before .before .args .chain)) (c .before .before .before .before .before .pre .1 .1 .0) _ (c .before .half-bucket .ensures .0) (c .before .half-bucket .ensures .1)
+returns-3 : tie.Need-returns-3
+returns-3 c = (one-off _ _ _ _ (sym (c .before .before .before .before .before .before .before .before .before .pre .1 .1 .1 .0 .size (c .before .before .before .before .before .before .before .before .before .args .y)) ∙ c .before .before .if2 .taken) _ (c .before .before .before .before .before .before .before .before .before .pre .1 .1 .1 .0 .some (c .before .before .before .before .before .before .before .before .before .args .y) (omega (arith, c .before .before .if2 .taken))) (c .if3 .left), omega arith)
 
--- the sum fits
-fits : (c : tie.After-one-mate Inv-loop μ-loop) → c .before .before .loop .n + c .one-mate .result ≤ 32768
-fits c = rw (c .one-mate .ensures .0) (omega (arith, walk-few _ _ _ _ _ _ _ (walk-on _ _ _ _ _ (now (c .before .before .before .before .before .before .before .before .args .heads)) (now (c .before .before .before .before .before .before .before .before .args .chain)) (c .before .before .before .before .before .before .before .before .pre .1 .1 .0) _ _ (c .before .before .loop .inv) (omega (arith, c .before .loop-test .taken))), c .before .before .before .before .before .before .before .before .pre .0 .entries))
+one-half-requires : tie.Need-one-half-requires
+one-half-requires c κs = (c .before .before .before .before .before .before .before .pre .0, (c .before .before .before .before .before .before .before .pre .1 .0, c .before .before .before .before .before .before .before .pre .1 .1 .1 .1))
 
-sub-j : tie.Need-sub-j Inv-loop μ-loop
-sub-j c = omega arith
+sub-result : tie.Need-sub-result
+sub-result c = omega (arith, c .one-half .ensures, size-mates (now (c .before .before .before .before .before .before .before .before .args .codes)) (c .before .before .before .before .before .before .before .before .args .x) (c .before .before .before .before .before .before .before .before .args .y) (c .before .before .before .before .before .before .before .before .args .z), c .before .before .before .before .before .before .before .before .pre .1 .1 .1 .0 .size (c .before .before .before .before .before .before .before .before .args .y))
 
-one-mate-requires : tie.Need-one-mate-requires Inv-loop μ-loop
-one-mate-requires c κs = c .before .loop .inv .at (omega (arith, c .loop-test .taken)) .paired
+inverse-requires : tie.Need-inverse-requires
+inverse-requires c κs = search needs
 
-add-n : tie.Need-add-n Inv-loop μ-loop
-add-n c = omega (arith, fits c)
+one-half-requires-2 : tie.Need-one-half-requires-2
+one-half-requires-2 c κs = (c .before .before .before .before .before .before .before .before .before .pre .0, (c .before .before .before .before .before .before .before .before .before .pre .1 .0, rw (c .inverse .ensures) (c .before .before .before .before .before .before .before .before .before .pre .1 .1 .1 .1 .0, λ e. c .before .before .before .before .before .before .before .before .before .pre .1 .1 .1 .1 .1 (omega arith), λ e. c .before .before .before .before .before .before .before .before .before .pre .1 .1 .1 .1 .2 (omega arith))))
 
-mul-k-2 : tie.Need-mul-k-2 Inv-loop μ-loop
-mul-k-2 c = omega (arith, c .before .before .loop .inv .low, c .before .before .before .before .before .before .before .before .pre .1 .0 .numbers, c .before .before .before .before .before .before .before .before .good)
+sub-result-2 : tie.Need-sub-result-2
+sub-result-2 c = omega (arith, c .before .before .one-half .ensures, rw (c .before .inverse .ensures) at (c .one-half2 .ensures), size-mates (now (c .before .before .before .before .before .before .before .before .before .before .args .codes)) (c .before .before .before .before .before .before .before .before .before .before .args .x) (c .before .before .before .before .before .before .before .before .before .before .args .y) (c .before .before .before .before .before .before .before .before .before .before .args .z), c .before .before .before .before .before .before .before .before .before .before .pre .1 .1 .1 .0 .size (c .before .before .before .before .before .before .before .before .before .before .args .y))
 
-shared-slice-read-k-2 : tie.Need-shared-slice-read-k-2 Inv-loop μ-loop
-shared-slice-read-k-2 c = omega (arith, c .before .before .before .loop .inv .low, c .before .before .before .before .before .before .before .before .before .pre .1 .0 .numbers, c .before .before .loop-test .taken)
-
-cast-k-2 : tie.Need-cast-k-2 Inv-loop μ-loop
-cast-k-2 c = omega (arith, c .shared-slice-known5 .given (c .before .before .before .loop .k - 1))
-
-loop-less : tie.Need-loop-less Inv-loop μ-loop
-loop-less c = walk-falls _ _ _ _ _ (now (c .before .before .before .before .before .before .before .before .before .args .heads)) (now (c .before .before .before .before .before .before .before .before .before .args .chain)) (c .before .before .before .before .before .before .before .before .before .pre .1 .1 .0) _ _ (c .before .before .before .loop .inv) (omega (arith, c .before .before .loop-test .taken))
-
-loop-again : tie.Need-loop-again Inv-loop μ-loop
-loop-again c = rw (c .before .one-mate .ensures .0) (walk-on _ _ _ _ _ (now (c .before .before .before .before .before .before .before .before .before .args .heads)) (now (c .before .before .before .before .before .before .before .before .before .args .chain)) (c .before .before .before .before .before .before .before .before .before .pre .1 .1 .0) _ _ (c .before .before .before .loop .inv) (omega (arith, c .before .before .loop-test .taken)))
-
-returns : tie.Need-returns Inv-loop μ-loop
-returns c = (
-  walk-end _ _ _ _ _ _ _ (c .before .loop .inv) (omega (arith, c .loop-test .left)),
-  omega (arith, walk-few _ _ _ _ _ _ _ (c .before .loop .inv), c .before .before .before .before .before .before .before .pre .0 .entries),
-)
+returns-4 : tie.Need-returns-4
+returns-4 c =
+    let left = rw (c .before .inverse .ensures) at (c .one-half2 .ensures) in
+    (omega (arith, c .before .before .one-half .ensures, left, size-mates (now (c .before .before .before .before .before .before .before .before .before .before .args .codes)) (c .before .before .before .before .before .before .before .before .before .before .args .x) (c .before .before .before .before .before .before .before .before .before .before .args .y) (c .before .before .before .before .before .before .before .before .before .before .args .z), c .before .before .before .before .before .before .before .before .before .before .pre .1 .1 .1 .0 .size (c .before .before .before .before .before .before .before .before .before .before .args .y)), omega (arith, size-mates (now (c .before .before .before .before .before .before .before .before .before .before .args .codes)) (c .before .before .before .before .before .before .before .before .before .before .args .x) (c .before .before .before .before .before .before .before .before .before .before .args .y) (c .before .before .before .before .before .before .before .before .before .before .args .z), c .before .before .before .before .before .before .before .before .before .before .pre .1 .1 .1 .0 .size (c .before .before .before .before .before .before .before .before .before .before .args .y), size-few (now (c .before .before .before .before .before .before .before .before .before .before .args .codes)) (c .before .before .before .before .before .before .before .before .before .before .args .x) (c .before .before .before .before .before .before .before .before .before .before .args .y), c .before .before .before .before .before .before .before .before .before .before .pre .1 .0 .entries))
 
 pub count-mates-spec : {M : Type 1} → statement M
 count-mates-spec =
     tie.close
     (tie.spec
-    Inv-loop
-    μ-loop
-    half-bucket-requires
-    mul-k
-    shared-slice-read-k
-    cast-k
-    loop-holds
-    sub-j
-    one-mate-requires
-    add-n
-    mul-k-2
-    shared-slice-read-k-2
-    cast-k-2
-    loop-less
-    loop-again
-    returns)
+    mul-n
+    shared-slice-read-n
+    returns
+    mul-if3
+    shared-slice-read-if3
+    returns-2
+    returns-3
+    one-half-requires
+    sub-result
+    inverse-requires
+    one-half-requires-2
+    sub-result-2
+    returns-4)

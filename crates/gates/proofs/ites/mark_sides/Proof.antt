@@ -1,81 +1,107 @@
 -- `gates::ites::mark_sides` meets its contract.
 -- Assumes nothing.
 use mathlib.Core.Path.{_≡_, refl, _∙_}
-use mathlib.Core.Logic.{⊎-elim}
-use Prim.Native.Nat.{_-_}
+use Prim.Native.Nat.{ℕ, _-_, _≤_}
 use native.Mathlib.Omega.{arith}
-use lib.ListN.{length}
-use Rattle.gates.proofs.HalfChains.{chained-paired, chained-unpaired}
-use Rattle.gates.proofs.Halves.{SideMarking, side-marking-begin, side-marking-on, side-marking-more, side-marking-end}
+use borrow.Author.Needs.{needs}
+use lib.ListN.{length, getD}
+use denote.Ref.{now}
+use Rattle.gates.specs.Ites.{SidesAt}
+use Rattle.gates.proofs.SideMarks.{sides-none, sides-then, sides-end, isBelow, below-begin, below-before, below-on, below-end}
+use Rattle.gates.proofs.CountBounds.{kept-pairs-few}
 use Rattle.gates.proofs.ites.mark_sides.Statement.{statement}
 use Rattle.gates.proofs.ites.mark_sides.Tie as tie
 
 abbrev Inv-loop : tie.InvT-loop
-Inv-loop codes heads chain marks₀ found₀ p₀ marks found p = SideMarking codes marks₀ marks (found .ites) p × (found .ands ≡ found₀ .ands) × (found .xors ≡ found₀ .xors)
+Inv-loop codes index heads chain sizes₀ sides₀ marks₀ found₀ x₀ sizes sides marks found x =
+    (length sizes ≡ length sizes₀) × (length sides ≡ length sides₀) × (x ≤ length heads) × ((y : ℕ) → getD sizes y 0 ≡ 0) × SidesAt codes (isBelow codes x) marks₀ marks 0 (found .ites)
+    × (found .ands ≡ found₀ .ands) × (found .xors ≡ found₀ .xors)
 
 abbrev μ-loop : tie.MeasureT-loop
-μ-loop codes heads chain marks₀ found₀ p₀ marks found p = length codes - p
+μ-loop codes index heads chain sizes₀ sides₀ marks₀ found₀ x₀ sizes sides marks found x = length heads - x
 
 loop-holds : tie.Need-loop-holds Inv-loop μ-loop
-loop-holds c = (rw (c .before .before .before .before .pre .1 .1 .1 .1) (side-marking-begin _ _), refl, refl)
+loop-holds c = (refl, refl, omega arith, c .before .before .before .before .before .before .before .pre .1 .1 .1 .1 .1 .0, rw (c .before .before .before .before .before .before .before .pre .1 .1 .1 .1 .1 .1 .1) (sides-none _ _ _ _ (below-begin _)), refl, refl)
 
-mul-if1 : tie.Need-mul-if1 Inv-loop μ-loop
-mul-if1 c = omega (arith, c .loop-test .taken, c .before .before .before .before .before .before .pre .1 .0 .numbers, c .before .before .before .before .before .before .good)
+cast-loop : tie.Need-cast-loop Inv-loop μ-loop
+cast-loop c = search needs
 
-mul-if1-2 : tie.Need-mul-if1-2 Inv-loop μ-loop
-mul-if1-2 c = omega (arith, c .loop-test .taken, c .before .before .before .before .before .before .pre .1 .0 .numbers, c .before .before .before .before .before .before .good)
+inverse-requires : tie.Need-inverse-requires Inv-loop μ-loop
+inverse-requires c κs = search needs
 
-shared-slice-read-if1 : tie.Need-shared-slice-read-if1 Inv-loop μ-loop
-shared-slice-read-if1 c = omega (arith, c .before .loop-test .taken, c .before .before .before .before .before .before .before .pre .1 .0 .numbers)
+count-outputs-requires : tie.Need-count-outputs-requires Inv-loop μ-loop
+count-outputs-requires c κs =
+    let turn = c .before .before .before .before .loop in
+    (c .before .before .before .before .before .before .before .before .before .before .before .before .pre .1 .0, (c .before .before .before .before .before .before .before .before .before .before .before .before .pre .1 .1 .0, (c .before .before .before .before .before .before .before .before .before .before .before .before .pre .1 .1 .1 .0, (omega (arith, c .before .before .inverse .ensures, c .before .before .before .loop-test .taken, c .before .before .before .before .before .before .before .before .before .before .before .before .pre .1 .1 .0 .inverses), ((omega (arith, turn .inv .0, c .before .before .before .before .before .before .before .before .before .before .before .before .pre .1 .1 .1 .1 .0 .0), omega (arith, turn .inv .1, c .before .before .before .before .before .before .before .before .before .before .before .before .pre .1 .1 .1 .1 .0 .1)), turn .inv .3)))))
 
-sides-at-requires : tie.Need-sides-at-requires Inv-loop μ-loop
-sides-at-requires c κs = (c .before .before .before .before .before .before .before .before .pre .0, (c .before .before .before .before .before .before .before .before .pre .1 .0, (c .before .before .before .before .before .before .before .before .pre .1 .1 .0, (omega (arith, c .before .before .loop-test .taken), chained-paired _ _ _ _ _ (c .before .before .before .before .before .before .before .before .pre .1 .1 .0) _ (omega (arith, c .before .before .loop-test .taken)) (c .if1 .taken)))))
+mark-places-requires : tie.Need-mark-places-requires Inv-loop μ-loop
+mark-places-requires c κs =
+    let turn = c .before .before .before .before .before .before .before .before .before .before .before .before .loop in
+    let counted = c .before .before .before .before .before .before .before .count-outputs in (
+      c .before .before .before .before .before .before .before .before .before .before .before .before .before .before .before .before .before .before .before .before .pre .0,
+      (
+        c .before .before .before .before .before .before .before .before .before .before .before .before .before .before .before .before .before .before .before .before .pre .1 .0,
+        (
+          c .before .before .before .before .before .before .before .before .before .before .before .before .before .before .before .before .before .before .before .before .pre .1 .1 .0,
+          (
+            c .before .before .before .before .before .before .before .before .before .before .before .before .before .before .before .before .before .before .before .before .pre .1 .1 .1 .0,
+            (
+              omega (arith, c .before .before .before .before .before .before .before .before .before .before .before .loop-test .taken),
+              (
+                (omega (arith, counted .kept .1 .1 .1 .1 .0, turn .inv .0, c .before .before .before .before .before .before .before .before .before .before .before .before .before .before .before .before .before .before .before .before .pre .1 .1 .1 .1 .0 .0), omega (arith, counted .kept .1 .1 .1 .1 .1 .0, turn .inv .1, c .before .before .before .before .before .before .before .before .before .before .before .before .before .before .before .before .before .before .before .before .pre .1 .1 .1 .1 .0 .1)),
+                (
+                  rw (c .before .before .before .before .before .before .before .before .before .before .inverse .ensures) at (counted .ensures),
+                  (
+                    (omega (arith, turn .inv .4 .size, c .before .before .before .before .before .before .before .before .before .before .before .before .before .before .before .before .before .before .before .before .pre .1 .1 .1 .1 .1 .1 .0 .0), λ p t. omega (arith, below-before _ _ p t (turn .inv .4), c .before .before .before .before .before .before .before .before .before .before .before .before .before .before .before .before .before .before .before .before .pre .1 .1 .1 .1 .1 .1 .0 .1 p)),
+                    omega (arith, turn .inv .4 .count, kept-pairs-few (now (c .before .before .before .before .before .before .before .before .before .before .before .before .before .before .before .before .before .before .before .before .args .codes)) (c .before .before .before .before .before .before .before .before .before .before .before .before .before .before .before .before .before .before .before .before .pre .1 .0 .entries) (λ h. isBelow (now (c .before .before .before .before .before .before .before .before .before .before .before .before .before .before .before .before .before .before .before .before .args .codes)) (turn .x) (h .place))),
+                  ),
+                ),
+              ),
+            ),
+          ),
+        ),
+      ),
+    )
 
-slice-read-marks : tie.Need-slice-read-marks Inv-loop μ-loop
-slice-read-marks c = omega (arith, c .before .before .before .before .loop-test .taken, c .before .before .before .before .before .loop .inv .0 .size, c .before .before .before .before .before .before .before .before .before .before .pre .1 .1 .1 .0 .0)
+clear-outputs-requires : tie.Need-clear-outputs-requires Inv-loop μ-loop
+clear-outputs-requires c κs =
+    let turn = c .before .before .before .before .before .before .before .before .before .before .before .before .before .before .before .before .loop in
+    (c .before .before .before .before .before .before .before .before .before .before .before .before .before .before .before .before .before .before .before .before .before .before .before .before .pre .1 .0, (c .before .before .before .before .before .before .before .before .before .before .before .before .before .before .before .before .before .before .before .before .before .before .before .before .pre .1 .1 .0, (c .before .before .before .before .before .before .before .before .before .before .before .before .before .before .before .before .before .before .before .before .before .before .before .before .pre .1 .1 .1 .0, (omega (arith, c .before .before .before .before .before .before .before .before .before .before .before .before .before .before .inverse .ensures, c .before .before .before .before .before .before .before .before .before .before .before .before .before .before .before .loop-test .taken, c .before .before .before .before .before .before .before .before .before .before .before .before .before .before .before .before .before .before .before .before .before .before .before .before .pre .1 .1 .0 .inverses), (omega (arith, c .before .before .before .before .before .before .before .before .before .before .before .count-outputs .kept .1 .1 .1 .1 .0, turn .inv .0, c .before .before .before .before .before .before .before .before .before .before .before .before .before .before .before .before .before .before .before .before .before .before .before .before .pre .1 .1 .1 .1 .0 .0), c .before .before .before .before .before .before .before .before .before .before .before .count-outputs .ensures .size)))))
 
-add-marks : tie.Need-add-marks Inv-loop μ-loop
-add-marks c = omega (arith, c .before .before .before .before .before .before .loop .inv .0 .rest (c .before .before .before .before .before .before .loop .p) (omega arith), c .before .before .before .before .before .before .before .before .before .before .before .pre .1 .1 .1 .0 .1 (c .before .before .before .before .before .before .loop .p), c .before .before .sides-at .ensures .1 .1 .0)
-
-slice-write-marks : tie.Need-slice-write-marks Inv-loop μ-loop
-slice-write-marks c = omega (arith, c .before .before .before .before .before .loop-test .taken, c .before .before .before .before .before .before .loop .inv .0 .size, c .before .before .before .before .before .before .before .before .before .before .before .pre .1 .1 .1 .0 .0)
-
-with-ites-requires : tie.Need-with-ites-requires Inv-loop μ-loop
-with-ites-requires c κs = omega (arith, c .before .before .before .before .before .before .loop .inv .0 .few, c .before .before .before .before .before .loop-test .taken, c .before .before .before .before .before .before .before .before .before .before .before .pre .0 .entries, c .before .before .sides-at .ensures .1 .1 .1)
-
-add-p : tie.Need-add-p Inv-loop μ-loop
-add-p c = omega arith
+add-x : tie.Need-add-x Inv-loop μ-loop
+add-x c = omega (arith, c .before .before .before .before .before .before .before .before .before .before .before .before .before .before .before .before .before .before .loop-test .taken, c .before .before .before .before .before .before .before .before .before .before .before .before .before .before .before .before .before .before .before .before .before .before .before .before .before .before .before .pre .1 .1 .0 .fits)
 
 loop-less : tie.Need-loop-less Inv-loop μ-loop
-loop-less c = omega (arith, c .before .before .loop-test .taken)
+loop-less c = omega (arith, c .before .before .before .before .before .before .before .before .before .before .before .before .before .before .before .before .before .before .loop-test .taken)
 
 loop-again : tie.Need-loop-again Inv-loop μ-loop
 loop-again c =
-    let turn = c .before .before .before .loop in
-    ⊎-elim
-    (λ w.
-    rw (w .5, w .6 ∙ w .4 .ensures) (
-      side-marking-more _ _ _ _ _ (turn .inv .0) (omega (arith, c .before .before .loop-test .taken))
-          (omega (arith, c .before .before .loop-test .taken, turn .inv .0 .size, c .before .before .before .before .before .before .before .before .pre .1 .1 .1 .0 .0)) _ _ (w .1 .ensures .0) (w .1 .ensures .1 .0) (w .1 .ensures .1 .1 .1),
-      turn .inv .1,
-      turn .inv .2,
-    ))
-    (λ w.
-    rw (w .1, w .2) (
-      side-marking-on _ _ _ _ _ (turn .inv .0) (omega (arith, c .before .before .loop-test .taken))
-          (chained-unpaired _ _ _ _ _ (c .before .before .before .before .before .before .before .before .pre .1 .1 .0) _ (omega (arith, c .before .before .loop-test .taken)) (omega (arith, w .0 .left)) (omega (arith, c .before .before .before .before .before .before .before .before .pre .0 .entries))),
-      turn .inv .1,
-      turn .inv .2,
-    ))
-    (c .if1 .came)
+    let turn = c .before .before .before .before .before .before .before .before .before .before .before .before .before .before .before .before .before .before .before .loop in
+    let counted = c .before .before .before .before .before .before .before .before .before .before .before .before .before .before .count-outputs in
+    let marked = c .before .before .before .before .before .before .mark-places .ensures in (
+      c .before .before .clear-outputs .kept .1 .1 .1 .1 .0 ∙ counted .kept .1 .1 .1 .1 .0 ∙ turn .inv .0,
+      counted .kept .1 .1 .1 .1 .1 .0 ∙ turn .inv .1,
+      omega (arith, c .before .before .before .before .before .before .before .before .before .before .before .before .before .before .before .before .before .before .loop-test .taken),
+      c .before .before .clear-outputs .ensures,
+      sides-then _ _ _ _ (below-on _ (turn .x)) (turn .inv .4) (marked .1),
+      marked .0 .0 ∙ turn .inv .5,
+      marked .0 .1 ∙ turn .inv .6,
+    )
 
 same-length : tie.Need-same-length Inv-loop μ-loop
-same-length c = c .before .loop .inv .0 .size
+same-length c = c .before .loop .inv .0
+
+same-length-2 : tie.Need-same-length-2 Inv-loop μ-loop
+same-length-2 c = c .before .loop .inv .1
+
+same-length-3 : tie.Need-same-length-3 Inv-loop μ-loop
+same-length-3 c = c .before .loop .inv .4 .size
 
 returns : tie.Need-returns Inv-loop μ-loop
 returns c =
-    let all = side-marking-end _ _ _ _ _ (c .before .loop .inv .0) (omega (arith, c .loop-test .left)) in
-    ((c .before .loop .inv .1, c .before .loop .inv .2), (all .0, all .1))
+    let turn = c .before .loop in
+    let all = sides-end _ _ (below-end _ (c .before .before .before .before .before .before .before .before .before .pre .1 .0) (turn .x) (omega (arith, c .loop-test .left, c .before .before .before .before .before .before .before .before .before .pre .1 .1 .0 .literals))) _ _ _ (turn .inv .4) in
+    ((turn .inv .5, turn .inv .6), (all .0, all .1))
 
 pub mark-sides-spec : {M : Type 1} → statement M
 mark-sides-spec =
@@ -84,16 +110,15 @@ mark-sides-spec =
     Inv-loop
     μ-loop
     loop-holds
-    mul-if1
-    mul-if1-2
-    shared-slice-read-if1
-    sides-at-requires
-    slice-read-marks
-    add-marks
-    slice-write-marks
-    with-ites-requires
-    add-p
+    cast-loop
+    inverse-requires
+    count-outputs-requires
+    mark-places-requires
+    clear-outputs-requires
+    add-x
     loop-less
     loop-again
     same-length
+    same-length-2
+    same-length-3
     returns)

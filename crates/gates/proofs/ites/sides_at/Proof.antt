@@ -1,41 +1,53 @@
 -- `gates::ites::sides_at` meets its contract.
 -- Assumes nothing.
-use borrow.Author.Needs.{needs}
-use mathlib.Core.Path.{_∙_}
-use Prim.Native.Nat.{_≤_}
+use mathlib.Core.Path.{sym, _∙_}
+use mathlib.Core.Logic.{_≢_}
+use mathlib.Core.Bool.{false}
+use Prim.Native.Nat.{ℕ, _<_}
 use native.Mathlib.Omega.{arith}
+use borrow.Author.Needs.{needs}
+use lib.ListN.{length, getD}
 use denote.Ref.{now}
-use Rattle.gates.specs.Normal.{maxCode}
-use Rattle.gates.proofs.Halves.{paired-in-three, next-in-three, Others, others, mark-by, pairs-by}
+use Rattle.clauses.specs.Code.{net}
+use Rattle.gates.proofs.Sides.{half-side}
+use Rattle.gates.proofs.Halves.{paired-in-three, place-inside, next-in-three, Others, others, mark-by, pairs-by}
 use Rattle.gates.proofs.ites.sides_at.Statement.{statement}
 use Rattle.gates.proofs.ites.sides_at.Tie as tie
 
-found : (c : tie.After-next-place2) → Others (now (c .before .before .before .before .before .args .codes)) (c .before .before .before .before .before .args .p) (c .before .next-place .result) (c .next-place2 .result)
-found c = others _ _ _ _ (paired-in-three _ _ (c .before .before .before .before .before .pre .1 .1 .1 .1)) (c .before .next-place .ensures) (c .next-place2 .ensures)
+found : (c : tie.After-next-place2) → Others (now (c .before .before .before .before .before .before .args .codes)) (c .before .before .before .before .before .before .args .p) (c .before .next-place .result) (c .next-place2 .result)
+found c = others _ _ _ _ (paired-in-three _ _ (c .before .before .before .before .before .before .pre .1 .1 .1 .0)) (c .before .next-place .ensures) (c .next-place2 .ensures)
 
-select-small : (c : tie.After-inverse) → c .inverse .result ≤ maxCode
-select-small c = omega (arith, c .inverse .ensures, c .before .before .before .before .before .before .before .before .before .pre .0 .small (c .before .before .before .before .before .before .before .before .before .args .p))
+room : (c : tie.After-inverse) (q : ℕ) → (getD (now (c .before .before .before .before .before .before .before .before .before .before .args .codes)) q 0 < length (now (c .before .before .before .before .before .before .before .before .before .before .args .sizes))) × (getD (now (c .before .before .before .before .before .before .before .before .before .before .args .codes)) q 0 < length (now (c .before .before .before .before .before .before .before .before .before .before .args .sides)))
+room c q = (omega (arith, c .before .before .before .before .before .before .before .before .before .before .pre .1 .0 .small q, c .before .before .before .before .before .before .before .before .before .before .pre .1 .1 .0 .0), omega (arith, c .before .before .before .before .before .before .before .before .before .before .pre .1 .0 .small q, c .before .before .before .before .before .before .before .before .before .before .pre .1 .1 .0 .1))
+
+nets : (c : tie.After-inverse) → (net (c .inverse .result) ≢ net (getD (now (c .before .before .before .before .before .before .before .before .before .before .args .codes)) (c .before .before .before .before .before .next-place .result) 0))
+    × (net (c .inverse .result) ≢ net (getD (now (c .before .before .before .before .before .before .before .before .before .before .args .codes)) (c .before .before .before .before .next-place2 .result) 0))
+    × (net (getD (now (c .before .before .before .before .before .before .before .before .before .before .args .codes)) (c .before .before .before .before .before .next-place .result) 0) ≢ net (getD (now (c .before .before .before .before .before .before .before .before .before .before .args .codes)) (c .before .before .before .before .next-place2 .result) 0))
+nets c =
+    let s = half-side (c .before .before .before .before .before .before .before .before .before .before .pre .1 .0) _ (c .before .before .before .before .before .before .before .before .before .before .pre .1 .1 .1 .0) false in
+    rw (c .inverse .ensures, found (c .before .before .before .before) .next-is, found (c .before .before .before .before) .after-is)
+    (λ e. s .select-output (omega arith), λ e. s .side-select (omega arith), λ e. s .side-output (omega arith))
 
 next-place-requires : tie.Need-next-place-requires
-next-place-requires c κs = paired-in-three _ _ (c .before .before .before .pre .1 .1 .1 .1)
+next-place-requires c κs = paired-in-three _ _ (c .before .before .before .before .pre .1 .1 .1 .0)
 
 next-place-requires-2 : tie.Need-next-place-requires-2
-next-place-requires-2 c κs = rw (c .next-place .ensures) (next-in-three _ _ (paired-in-three _ _ (c .before .before .before .before .pre .1 .1 .1 .1)))
+next-place-requires-2 c κs = rw (c .next-place .ensures) (next-in-three _ _ (paired-in-three _ _ (c .before .before .before .before .before .pre .1 .1 .1 .0)))
 
 mul-x : tie.Need-mul-x
-mul-x c = search needs
+mul-x c = omega (arith, place-inside _ _ (c .before .before .before .before .before .before .pre .1 .1 .1 .0), c .before .before .before .before .before .before .good)
 
 shared-slice-read-x : tie.Need-shared-slice-read-x
-shared-slice-read-x c = search needs
+shared-slice-read-x c = place-inside _ _ (c .before .before .before .before .before .before .before .pre .1 .1 .1 .0)
 
 mul-y : tie.Need-mul-y
-mul-y c = omega (arith, found (c .before) .next-in, c .before .before .before .before .before .before .good)
+mul-y c = omega (arith, found (c .before) .next-in, c .before .before .before .before .before .before .before .good)
 
 shared-slice-read-y : tie.Need-shared-slice-read-y
 shared-slice-read-y c = found (c .before .before) .next-in
 
 mul-z : tie.Need-mul-z
-mul-z c = omega (arith, found (c .before .before) .after-in, c .before .before .before .before .before .before .before .good)
+mul-z c = omega (arith, found (c .before .before) .after-in, c .before .before .before .before .before .before .before .before .good)
 
 shared-slice-read-z : tie.Need-shared-slice-read-z
 shared-slice-read-z c = found (c .before .before .before) .after-in
@@ -44,10 +56,10 @@ inverse-requires : tie.Need-inverse-requires
 inverse-requires c κs = search needs
 
 count-mates-requires : tie.Need-count-mates-requires
-count-mates-requires c κs = (c .before .before .before .before .before .before .before .before .before .pre .0, (c .before .before .before .before .before .before .before .before .before .pre .1 .0, (c .before .before .before .before .before .before .before .before .before .pre .1 .1 .0, (select-small c, c .before .before .before .before .before .before .before .before .before .pre .0 .small _))))
+count-mates-requires c κs = (c .before .before .before .before .before .before .before .before .before .before .pre .0, (c .before .before .before .before .before .before .before .before .before .before .pre .1 .0, (room c (c .before .before .before .before .before .next-place .result), (rw (c .inverse .ensures) (c .before .before .before .before .before .before .before .before .before .before .pre .1 .1 .1 .1), nets c))))
 
 count-mates-requires-2 : tie.Need-count-mates-requires-2
-count-mates-requires-2 c κs = (c .before .before .before .before .before .before .before .before .before .before .pre .0, (c .before .before .before .before .before .before .before .before .before .before .pre .1 .0, (c .before .before .before .before .before .before .before .before .before .before .pre .1 .1 .0, (select-small (c .before), c .before .before .before .before .before .before .before .before .before .before .pre .0 .small _))))
+count-mates-requires-2 c κs = (c .before .before .before .before .before .before .before .before .before .before .before .pre .0, (c .before .before .before .before .before .before .before .before .before .before .before .pre .1 .0, (room (c .before) (c .before .before .before .before .before .next-place2 .result), (rw (c .before .inverse .ensures) (c .before .before .before .before .before .before .before .before .before .before .before .pre .1 .1 .1 .1), (nets (c .before) .1, nets (c .before) .0, λ e. nets (c .before) .2 (sym e))))))
 
 side-mark-requires : tie.Need-side-mark-requires
 side-mark-requires c κs = search needs
@@ -58,13 +70,13 @@ if-plain-requires c κs = search needs
 if-plain-requires-2 : tie.Need-if-plain-requires-2
 if-plain-requires-2 c κs = search needs
 
-add-t20 : tie.Need-add-t20
-add-t20 c = omega (arith, c .before .if-plain .ensures .1, c .if-plain2 .ensures .1, c .before .before .before .before .count-mates .ensures .1, c .before .before .before .count-mates2 .ensures .1)
+add-t21 : tie.Need-add-t21
+add-t21 c = omega (arith, c .before .if-plain .ensures .1, c .if-plain2 .ensures .1, c .before .before .before .before .count-mates .ensures .1, c .before .before .before .count-mates2 .ensures .1)
 
 returns : tie.Need-returns
 returns c =
     let f = found (c .before .before .before .before .before .before .before .before .before) in
-    let t = c .before .before .before .before .before .before .before .before .before .before .before .before .before .before .pre .1 .1 .1 .1 in
+    let t = c .before .before .before .before .before .before .before .before .before .before .before .before .before .before .before .pre .1 .1 .1 .0 in
     let e = rw (c .before .before .before .before .before .inverse .ensures) at (c .before .before .before .before .count-mates .ensures .0) in
     let g = rw (c .before .before .before .before .before .inverse .ensures) at (c .before .before .before .count-mates2 .ensures .0) in (
       c .before .before .side-mark .ensures .0 ∙ mark-by _ _ _ _ t f _ _ e g,
@@ -92,5 +104,5 @@ sides-at-spec =
     side-mark-requires
     if-plain-requires
     if-plain-requires-2
-    add-t20
+    add-t21
     returns)

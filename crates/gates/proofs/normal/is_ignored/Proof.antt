@@ -31,7 +31,7 @@ loop-holds : tie.Need-loop-holds Inv-loop μ-loop
 loop-holds c = looking-none (c .before .pre .0 .0) refl (c .before .pre .1 .1 .1)
 
 code-at-requires : tie.Need-code-at-requires Inv-loop μ-loop
-code-at-requires c κs = (omega (arith, c .before .before .before .pre .0), c .before .before .before .pre .1 .0 (c .before .loop .i))
+code-at-requires c κs = c .before .before .before .pre .1 .0 (c .before .loop .i)
 
 inverse-requires : tie.Need-inverse-requires Inv-loop μ-loop
 inverse-requires c κs = tt

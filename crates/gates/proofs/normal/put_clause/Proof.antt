@@ -42,7 +42,7 @@ loop-holds : tie.Need-loop-holds Inv-loop μ-loop
 loop-holds c = putting-none (c .before .before .pre .0 .1) (c .before .before .pre .0 .0) refl (c .before .before .pre .1 .1 .1)
 
 code-at-requires : tie.Need-code-at-requires Inv-loop μ-loop
-code-at-requires c κs = (omega (arith, c .before .before .before .before .pre .0), c .before .before .before .before .pre .1 .0 (c .before .loop .i))
+code-at-requires c κs = c .before .before .before .before .pre .1 .0 (c .before .loop .i)
 
 cast-if1 : tie.Need-cast-if1 Inv-loop μ-loop
 cast-if1 c = omega (arith, bounded c)

@@ -35,7 +35,9 @@ returns-2 c = rw (lead-true (c .before .before .before .before .before .before .
 put-requires-3 : tie.Need-put-requires-3
 put-requires-3 c κs = omega (arith, c .before .before .before .before .before .pre, ap length (lead-inverse (c .before .before .before .before .before .args .code) (c .before .before .before .if1 .left) (c .before .before .if2 .left) (c .before .if3 .taken)))
 
--- src/lines.rt:40:9
+cast-put-decimal : tie.Need-cast-put-decimal
+cast-put-decimal c = search needs
+
 put-decimal-requires : tie.Need-put-decimal-requires
 put-decimal-requires c κs = omega (arith, c .before .before .before .before .before .before .before .before .before .pre, c .before .before .before .put3 .ensures .end, c .before .before .before .put3 .kept .0, ap length (lead-inverse (c .before .before .before .before .before .before .before .before .before .args .code) (c .before .before .before .before .before .before .before .if1 .left) (c .before .before .before .before .before .before .if2 .left) (c .before .before .before .before .before .if3 .taken)))
 
@@ -47,7 +49,9 @@ same-length-3 c = search needs
 returns-3 : tie.Need-returns-3
 returns-3 c = rw (lead-inverse (c .before .before .before .before .before .before .before .before .before .before .before .before .args .code) (c .before .before .before .before .before .before .before .before .before .before .if1 .left) (c .before .before .before .before .before .before .before .before .before .if2 .left) (c .before .before .before .before .before .before .before .before .if3 .taken)) (wrote-then (c .before .before .before .before .before .before .put3 .ensures) (c .before .before .put-decimal .ensures))
 
--- src/lines.rt:42:5
+cast-put-decimal-2 : tie.Need-cast-put-decimal-2
+cast-put-decimal-2 c = search needs
+
 put-decimal-requires-2 : tie.Need-put-decimal-requires-2
 put-decimal-requires-2 c κs = rw (lead-plain (c .before .before .before .before .before .args .code) (c .before .before .before .if1 .left) (c .before .before .if2 .left) (c .before .if3 .left)) at (c .before .before .before .before .before .pre)
 
@@ -70,9 +74,11 @@ put-lead-spec =
     same-length-2
     returns-2
     put-requires-3
+    cast-put-decimal
     put-decimal-requires
     same-length-3
     returns-3
+    cast-put-decimal-2
     put-decimal-requires-2
     same-length-4
     returns-4)

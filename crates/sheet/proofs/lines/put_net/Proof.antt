@@ -1,6 +1,6 @@
 use Rattle.clauses.proofs.Writes.{wrote-then}
 use Rattle.sheet.proofs.Texts.{net-length}
-use Rattle.sheet.specs.Sheet.{field, netLine}
+use Rattle.sheet.specs.Sheet.{netLine}
 use native.Mathlib.Omega.{arith}
 use borrow.Author.Needs.{needs}
 use Rattle.sheet.proofs.lines.put_net.Statement.{statement}
@@ -24,7 +24,7 @@ same-length c = search needs
 
 -- src/lines.rt:46:1
 returns : tie.Need-returns
-unfolding netLine field
+unfolding netLine
 returns c = wrote-then (c .before .before .before .before .before .before .before .before .before .before .put-word .ensures) (wrote-then (c .before .before .before .before .before .before .put-lead .ensures) (c .before .before .put .ensures))
 
 pub put-net-spec : {M : Type 1} → statement M
