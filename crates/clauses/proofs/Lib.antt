@@ -10,6 +10,7 @@ pub mod Renaming
 pub mod Extended
 -- A walk along a literal row
 pub mod Walks
+pub mod LentSlice
 pub mod LentWalk
 -- Tests in their order, and the tally that decides them
 pub mod Deciding

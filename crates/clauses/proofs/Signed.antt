@@ -1,7 +1,7 @@
 -- Signed entries in 32 bits: their magnitudes and signs.
 -- Assumes nothing.
-use mathlib.Core.Path.{_≡_, refl, ap}
-use mathlib.Core.Bool.{true, false, not}
+use mathlib.Core.Path.{_≡_, refl, ap, _∙_}
+use mathlib.Core.Bool.{Bool, true, false, not}
 use mathlib.Core.List.{List, map}
 use Prim.Native.Nat.{ℕ, zero, suc, _+_, _*_, _≤_, _<_, _^_}
 use native.Mathlib.Omega.{arith}
@@ -39,6 +39,14 @@ neg-fits (suc n) h = record { sfits = omega arith }
 -- an entry is read back from its bits
 pub read-back : (z : ℤ) → mag z < 2 ^ 31 → toZ w32 (ofZ w32 z) ≡ z
 read-back z h = toZ-ofZ w32 z (record { sfits = h })
+
+-- what is read of an entry's bits is of the entry
+module _ (z : ℤ) (h : mag z < 2 ^ 31) where
+  pub magnitude-back : {m : ℕ} → m ≡ natAbs (toZ w32 (ofZ w32 z)) → m ≡ natAbs z
+  magnitude-back e = e ∙ ap natAbs (read-back z h)
+
+  pub sign-back : {b : Bool} → b ≡ not (nonNeg (toZ w32 (ofZ w32 z))) → b ≡ not (nonNeg z)
+  sign-back e = e ∙ ap (λ (y : ℤ). not (nonNeg y)) (read-back z h)
 
 -- Literal codes by sign and magnitude
 

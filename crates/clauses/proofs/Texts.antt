@@ -79,6 +79,11 @@ unfolding rowText
 row-append [] rest = refl
 row-append (z ∷ row) rest = ap (λ (l : List ℕ). entryText z ++ l) (row-append row rest) ∙ sym (append-assoc (entryText z) (rowText row) (rowText rest))
 
+-- of no entries there is no text
+pub row-none : (row : List ℤ) → rowText (take 0 row) ≡ []
+unfolding rowText
+row-none row = refl
+
 module _ (row : List ℤ) (i : ℕ) (h : i < length row) where
   -- one entry more
   pub row-next : rowText (take (i + 1) row) ≡ rowText (take i row) ++ entryText (getD row i (pos 0))

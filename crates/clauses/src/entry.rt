@@ -1,16 +1,15 @@
-// The signed entries of a literal row: all else speaks of magnitudes and signs.
+// The signed entries of a literal row: their magnitudes, signs and codes.
 
 ghost use mathlib.Core.Path.{_≡_};
 ghost use mathlib.Core.Bool.{not};
-ghost use mathlib.Core.List.{_++_, map};
+ghost use mathlib.Core.List.{_++_};
 ghost use Prim.Native.Nat.{_<_, _≤_};
-ghost use lib.IntN.{natAbs, pos};
+ghost use lib.IntN.{natAbs};
 ghost use lib.Signed.{nonNeg};
-ghost use lib.ListN.{length, getD, take, drop, set};
+ghost use lib.ListN.{length, take, drop, set};
 ghost use Rattle.clauses.specs.Code.{codeOf};
 ghost use Rattle.clauses.specs.Limit.{maxNets};
 ghost use Rattle.clauses.specs.Number.{signed};
-use crate::walk::literal;
 
 // The magnitude of any entry, -2,147,483,648 too.
 pub fn magnitude(x: i32) -> u32
@@ -23,7 +22,8 @@ pub fn magnitude(x: i32) -> u32
     }
 }
 
-fn is_negative(x: i32) -> bool
+// Whether an entry has a minus.
+pub fn is_negative(x: i32) -> bool
     ensures { λ r. ⌜ r ≡ not (nonNeg x) ⌝ }
 {
     x < 0
@@ -37,31 +37,13 @@ fn entry_of(minus: bool, m: u32) -> i32
     if minus { 0 - (m as i32) } else { m as i32 }
 }
 
-// The magnitude of a row's entry, 0 past its end.
-pub fn magnitude_at(row: &[i32], i: usize) -> u32
-    ensures { λ r. ⌜ r ≡ natAbs (getD (now (row .entry)) i (pos 0)) ⌝ }
+// The literal code of an entry, of a net up to the limit.
+pub fn code(x: i32) -> u32
+    requires { ⌜ natAbs x ≤ maxNets ⌝ }
+    ensures { λ r. ⌜ r ≡ codeOf x ⌝ }
 {
-    magnitude(literal(row, i))
-}
-
-// Whether a row's entry has a minus; there is none past its end.
-pub fn is_negative_at(row: &[i32], i: usize) -> bool
-    ensures { λ r. ⌜ r ≡ not (nonNeg (getD (now (row .entry)) i (pos 0))) ⌝ }
-{
-    is_negative(literal(row, i))
-}
-
-// The literal code of a row's entry, of a net up to the limit; 0 past its end.
-pub fn code_at(row: &[i32], i: usize) -> u32
-    requires { ⌜ natAbs (getD (now row) i (pos 0)) ≤ maxNets ⌝ }
-    ensures { λ r. ⌜ r ≡ getD (map codeOf (now (row .entry))) i 0 ⌝ }
-{
-    let m = magnitude_at(row, i);
-    if is_negative_at(row, i) {
-        2 * m + 1
-    } else {
-        2 * m
-    }
+    let m = magnitude(x);
+    if is_negative(x) { 2 * m + 1 } else { 2 * m }
 }
 
 // Stores an entry, given by its sign and a magnitude of at most nine digits, if the row has room for it.

@@ -2,8 +2,7 @@
 
 ghost use mathlib.Core.Path.{_≡_};
 ghost use Prim.Native.Nat.{_+_, _<_, _≤_};
-ghost use lib.IntN.{pos};
-ghost use lib.ListN.{length, getD};
+ghost use lib.ListN.{length};
 ghost use Rattle.clauses.specs.Limit.{maxEntries};
 ghost use Rattle.clauses.specs.Number.{signedDecimal};
 ghost use Rattle.clauses.specs.Writing.{Wrote};
@@ -11,11 +10,13 @@ ghost use Rattle.clauses.specs.Printing.{headerText, entryText, rowText,
 use crate::checks::Check;
 use crate::checks::check_entries;
 use crate::checks::check_sizes;
-use crate::entry::is_negative_at;
-use crate::entry::magnitude_at;
+use crate::entry::is_negative;
+use crate::entry::magnitude;
 use crate::limits::MAX_TEXT;
 use crate::refusal::Refusal;
 use crate::tally::tally_row;
+use crate::walk::Walk;
+use crate::walk::next;
 use crate::writing::decimal_length;
 use crate::writing::put;
 use crate::writing::put_bytes;
@@ -28,26 +29,48 @@ pub enum Printing {
 }
 
 // The length of an entry in decimal.
-fn number_length(row: &[i32], i: usize) -> usize
-    requires { ⌜ i < length (now row) ⌝ }
-    ensures { λ r. ⌜ r ≡ length (signedDecimal (getD (now (row .entry)) i (pos 0))) ⌝ }
+fn number_length(x: i32) -> usize
+    ensures { λ r. ⌜ r ≡ length (signedDecimal x) ⌝ }
 {
-    let digits = decimal_length(magnitude_at(row, i) as u64);
-    if is_negative_at(row, i) {
+    let digits = decimal_length(magnitude(x) as u64);
+    if is_negative(x) {
         return digits + 1;
     }
     digits
 }
 
 // The length of an entry's text.
-fn entry_length(row: &[i32], i: usize) -> usize
-    requires { ⌜ i < length (now row) ⌝ }
-    ensures { λ r. ⌜ r ≡ length (entryText (getD (now (row .entry)) i (pos 0))) ⌝ }
+fn entry_length(x: i32) -> usize
+    ensures { λ r. ⌜ r ≡ length (entryText x) ⌝ }
 {
-    if magnitude_at(row, i) == 0 {
+    if magnitude(x) == 0 {
         return 2;
     }
-    number_length(row, i) + 1
+    number_length(x) + 1
+}
+
+// The length of a text of m bytes and an entry's text after it.
+fn add_length(m: usize, x: i32) -> usize
+    requires { ⌜ m + length (entryText x) < 18446744073709551616 ⌝ }
+    ensures { λ r. ⌜ r ≡ m + length (entryText x) ⌝ }
+{
+    m + entry_length(x)
+}
+
+// The length of the text of a row of n entries, walked from its start to its end.
+fn walk_length(row: &[i32], n: usize) -> usize
+    requires { ⌜ (n ≡ length (now row)) × (length (now row) ≤ maxEntries) ⌝ }
+    ensures { λ r. ⌜ r ≡ length (rowText (now (row .entry))) ⌝ }
+{
+    let mut total = 0;
+    let mut walk = Walk { row, at: 0 };
+    loop {
+        if n <= walk.at {
+            return total;
+        }
+        let x = next(&mut walk);
+        total = add_length(total, x);
+    }
 }
 
 // The length of a row's text.
@@ -55,13 +78,7 @@ fn row_length(row: &[i32]) -> usize
     requires { ⌜ length (now row) ≤ maxEntries ⌝ }
     ensures { λ r. ⌜ r ≡ length (rowText (now (row .entry))) ⌝ }
 {
-    let mut n = 0;
-    let mut i = 0;
-    while i < row.len() {
-        n += entry_length(row, i);
-        i += 1;
-    }
-    n
+    walk_length(row, row.len())
 }
 
 // The length of the header's text: `p cnf `, V, a space, C and LF.
@@ -80,30 +97,44 @@ fn list_length(v: u32, c: u32, row: &[i32]) -> usize
 }
 
 // Prints an entry in decimal.
-fn print_number(text: &mut [u8], at: usize, row: &[i32], i: usize) -> usize
-    requires { ⌜ i < length (now row) ⌝ }
-    requires { ⌜ at + length (signedDecimal (getD (now row) i (pos 0))) ≤ length (now text) ⌝ }
-    ensures { λ r. ⌜ Wrote (now (text .entry)) at (signedDecimal (getD (now (row .entry)) i (pos 0))) (now (text .exit)) r ⌝ }
+fn print_number(text: &mut [u8], at: usize, x: i32) -> usize
+    requires { ⌜ at + length (signedDecimal x) ≤ length (now text) ⌝ }
+    ensures { λ r. ⌜ Wrote (now (text .entry)) at (signedDecimal x) (now (text .exit)) r ⌝ }
 {
-    let m = magnitude_at(row, i);
-    if is_negative_at(row, i) {
-        let next = put(text, at, b'-');
-        return put_decimal(text, next, m as u64);
+    let m = magnitude(x);
+    if is_negative(x) {
+        let digits = put(text, at, b'-');
+        return put_decimal(text, digits, m as u64);
     }
     put_decimal(text, at, m as u64)
 }
 
 // Prints an entry.
-fn print_entry(text: &mut [u8], at: usize, row: &[i32], i: usize) -> usize
-    requires { ⌜ i < length (now row) ⌝ }
-    requires { ⌜ at + length (entryText (getD (now row) i (pos 0))) ≤ length (now text) ⌝ }
-    ensures { λ r. ⌜ Wrote (now (text .entry)) at (entryText (getD (now (row .entry)) i (pos 0))) (now (text .exit)) r ⌝ }
+fn print_entry(text: &mut [u8], at: usize, x: i32) -> usize
+    requires { ⌜ at + length (entryText x) ≤ length (now text) ⌝ }
+    ensures { λ r. ⌜ Wrote (now (text .entry)) at (entryText x) (now (text .exit)) r ⌝ }
 {
-    if magnitude_at(row, i) == 0 {
+    if magnitude(x) == 0 {
         return put_bytes(text, at, b"0\n");
     }
-    let next = print_number(text, at, row, i);
-    put(text, next, b' ')
+    let end = print_number(text, at, x);
+    put(text, end, b' ')
+}
+
+// Prints a row of n entries, walked from its start to its end.
+fn print_walk(text: &mut [u8], at: usize, row: &[i32], n: usize) -> usize
+    requires { ⌜ (n ≡ length (now row)) × (at + length (rowText (now row)) ≤ length (now text)) ⌝ }
+    ensures { λ r. ⌜ Wrote (now (text .entry)) at (rowText (now (row .entry))) (now (text .exit)) r ⌝ }
+{
+    let mut end = at;
+    let mut walk = Walk { row, at: 0 };
+    loop {
+        if n <= walk.at {
+            return end;
+        }
+        let x = next(&mut walk);
+        end = print_entry(text, end, x);
+    }
 }
 
 // Prints a row.
@@ -111,13 +142,7 @@ fn print_row(text: &mut [u8], at: usize, row: &[i32]) -> usize
     requires { ⌜ at + length (rowText (now row)) ≤ length (now text) ⌝ }
     ensures { λ r. ⌜ Wrote (now (text .entry)) at (rowText (now (row .entry))) (now (text .exit)) r ⌝ }
 {
-    let mut next = at;
-    let mut i = 0;
-    while i < row.len() {
-        next = print_entry(text, next, row, i);
-        i += 1;
-    }
-    next
+    print_walk(text, at, row, row.len())
 }
 
 // Prints the header at the start.

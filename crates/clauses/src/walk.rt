@@ -1,8 +1,6 @@
 // A clause of a literal row, walked literal by literal up to its zero.
 
 ghost use mathlib.Core.Path.{_≡_};
-ghost use lib.IntN.{pos};
-ghost use lib.ListN.{getD};
 ghost use Rattle.clauses.specs.Walk.{stepAt, advanced};
 
 // A literal row and a place in it.
@@ -36,12 +34,4 @@ pub fn next<'s, 'a>(walk: &'s mut Walk<'a>) -> i32
     let step = step_at(walk.row, walk.at);
     walk.at = step.at;
     step.literal
-}
-
-// The first literal of a walk from a place on, for a caller that keeps the place itself.
-pub fn literal(row: &[i32], at: usize) -> i32
-    ensures { λ r. ⌜ r ≡ getD (now (row .entry)) at (pos 0) ⌝ }
-{
-    let mut walk = Walk { row, at };
-    next(&mut walk)
 }

@@ -6,7 +6,6 @@ use mathlib.Core.List.{List, _++_, map}
 use Prim.Native.Nat.{ℕ, _+_, _-_, _≤_}
 use lib.IntN.{ℤ}
 use lib.ListN.{length, getD, take, drop, replicate}
-use lib.Seq.{sets}
 use Rattle.clauses.specs.Code.{codeOf}
 use Rattle.clauses.specs.Clause.{clausesIn, clausesOf, Present}
 use Rattle.clauses.proofs.Fitting.{entries-fit}
@@ -17,7 +16,7 @@ use Rattle.gates.specs.Normal.{normalRow, SmallEntries}
 use Rattle.clauses.proofs.Clauses.{literals-same}
 use Rattle.gates.proofs.Entries.{entries-small, entries-ended}
 use Rattle.gates.proofs.Found.{found-same}
-use Rattle.gates.proofs.NormalForm.{normal-has, normal-clauses, normal-present, normal-length, normal-part}
+use Rattle.gates.proofs.NormalForm.{normal-has, normal-clauses, normal-present, normal-length}
 use Rattle.gates.proofs.Counting.{same-with, counted-once}
 use Rattle.gates.proofs.Counted.{ands-counted, xors-counted, ites-counted}
 use Rattle.rules.specs.declared.Verdict.{Verdict}
@@ -81,10 +80,10 @@ pub record Left (v : ℕ) (row : List ℤ) (codes marks : List ℕ) (n : ℕ) : 
   pub same : (c : List ℕ) → Present (clausesIn (take n codes)) c ↔ Present (clausesOf row) c
   pub fits : Fits v (clausesIn (take n codes))
 
-pub finder-left : (v : ℕ) (row : List ℤ) (leads work : List ℕ) → Passed v row leads work → (codes₀ codes marks : List ℕ) (n : ℕ) → length row ≤ length codes₀
-    → n ≡ length (normalRow row) → codes ≡ sets codes₀ 0 (normalRow row) → Found (clausesOf row) (normalRow row) (take (length (normalRow row)) marks)
+pub finder-left : (v : ℕ) (row : List ℤ) (leads work : List ℕ) → Passed v row leads work → (codes marks : List ℕ) (n : ℕ)
+    → n ≡ length (normalRow row) → take (length (normalRow row)) codes ≡ normalRow row → Found (clausesOf row) (normalRow row) (take (length (normalRow row)) marks)
     → Left v row codes marks n
-finder-left v row leads work p codes₀ codes marks n room en ec f =
+finder-left v row leads work p codes marks n en ec f =
     record {
       few = subst⁻¹ (λ (k : ℕ). k ≤ length row) en (normal-length row ends);
       found =
@@ -101,7 +100,7 @@ finder-left v row leads work p codes₀ codes marks n room en ec f =
     ends = entries-ended row (p .ended)
 
     part : take n codes ≡ N
-    part = rw (en, ec) (normal-part row ends codes₀ room)
+    part = ap (λ (k : ℕ). take k codes) en ∙ ec
 
     fits : Fits v (clausesIn N)
     fits c k x m =

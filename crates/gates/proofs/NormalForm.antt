@@ -8,8 +8,8 @@ use Prim.Native.Nat.{ℕ, suc, _+_, _-_, _≤_, _<_}
 use native.Mathlib.Omega.{arith}
 use native.Mathlib.Decide.{decLt, ℕ-discrete}
 use lib.IntN.{ℤ}
-use lib.ListN.{length, getD, take, drop, length-map, length-append, List·getD-eq-default}
-use lib.Seq.{sets, sets-eq, take-append-seam, getD-append-add}
+use lib.ListN.{length, getD, length-map, length-append, List·getD-eq-default}
+use lib.Seq.{getD-append-add}
 use borrow.Author.Tests.{eq-eqb, ne-eqb}
 use borrow.Table.Steps.{cases}
 use Rattle.clauses.specs.Limit.{maxEntries}
@@ -196,11 +196,7 @@ module _ (row : List ℤ) where
         let e : length (map codeOf row) ≡ length row = length-map row codeOf in
         let z : getD (map codeOf row) (length (map codeOf row) - 1) 0 ≡ 0 = rw e ends in
         omega (arith, normal-shorter (clausesIn (map codeOf row)), ap length (clauses-row (map codeOf row) z))
-
     -- what normalising has written is the row
-    pub normal-part : (codes : List ℕ) → length row ≤ length codes → take (length (normalRow row)) (sets codes 0 (normalRow row)) ≡ normalRow row
-    normal-part codes h =
-        rw (sets-eq (normalRow row) codes 0 (omega (arith, normal-length))) (take-append-seam (normalRow row) (drop (0 + length (normalRow row)) codes))
 
   normal-small : SmallEntries row → (i : ℕ) → getD (normalRow row) i 0 ≤ maxCode
   unfolding normalRow clausesOf

@@ -2,16 +2,16 @@
 -- Assumes nothing.
 use mathlib.Core.Path.{_≡_, refl, sym, _∙_, ap}
 use mathlib.Core.Logic.{_≢_, _⊎_, inl, inr}
-use mathlib.Core.Bool.{Bool, true, false, not, false≢true}
+use mathlib.Core.Bool.{Bool, true, false, not, cond, _||_, false≢true}
 use mathlib.Core.List.{List, [], _∷_, _++_, map, append-nil, append-assoc, List·Memᴰ·head, List·Memᴰ·tail, List·Memᴰ·append-cases, Memᴰ·append-left, Memᴰ·append-right, Memᴰ·cast, List·Memᴰ·eq-of-singleton, List·Memᴰ·not-nil}
-use Prim.Native.Nat.{ℕ, _+_, _-_, _*_, _≤_, _<_}
+use Prim.Native.Nat.{ℕ, suc, _+_, _-_, _≤_, _<_}
 use native.Mathlib.Numerals.{add-one}
 use native.Mathlib.Omega.{arith}
 use native.Mathlib.Decide.{decLt, ℕ-discrete}
 use lib.Dec.{eqb}
 use lib.IntN.{ℤ, pos, negsuc, natAbs}
-use lib.ListN.{length, getD, take, drop, set, length-map, length-set, length-append, take-append-drop}
-use lib.Seq.{slice, slice-empty, slice-cons, sets, length-sets, take-suc, drop-append-le, take-take, length-take-le, take-add, drop-at, getD-set-same, getD-set-other}
+use lib.ListN.{length, getD, take, drop, set, length-map, length-set, length-append}
+use lib.Seq.{take-take, take-at, take-suc-set, length-take-le, getD-set-same, getD-set-other}
 use borrow.Author.Tests.{eq-eqb, ne-eqb}
 use borrow.Table.Steps.{cases}
 use Rattle.clauses.specs.Bytes.{front}
@@ -22,37 +22,16 @@ use Rattle.clauses.specs.Listing.{mem, tautology, literals}
 use Rattle.clauses.proofs.Lists.{keep-append}
 use Rattle.clauses.proofs.Codes.{negate-negate, negate-other}
 use Rattle.clauses.proofs.Clauses.{mem-in, in-mem, tautology-is, is-tautology, literals-length}
-use Rattle.clauses.proofs.Writes.{sets-append}
 use Rattle.clauses.proofs.Signed.{code-entry, code-small}
 use Rattle.gates.specs.Found.{clauseAt}
-use Rattle.gates.specs.Normal.{normal, rowOf, normalRow, SmallEntries, Older}
-use Rattle.gates.proofs.Rows.{clause-fits, literal-some, clauses-from, clauses-end}
+use Rattle.gates.specs.Normal.{normal, rowOf, normalRow, SmallEntries, Older, gatheredOf, gatherOn}
+use Rattle.gates.proofs.Rows.{clause-fits, clause-stops, clause-goes-on, literal-some, clauses-from, clauses-end}
 
--- Parts of a row
-
-module _ (l : List ℕ) (b : ℕ) where
-  part-more : (i x : ℕ) → x ≡ getD l i 0 → b ≤ i → i < length l → slice b (i + 1) l ≡ slice b i l ++ (x ∷ [])
-  part-more i x at h k =
-      let t : length (take i l) ≡ i = length-take-le i l (omega arith) in
-      rw (add-one i, take-suc l i 0 k, at) (drop-append-le b (take i l) (getD l i 0 ∷ []) (omega arith))
-
-  part-split : (i e : ℕ) → b ≤ i → i ≤ e → e ≤ length l → slice b e l ≡ slice b i l ++ slice i e l
-  part-split i e h k m =
-      let t : length (take i l) ≡ i = length-take-le i l (omega arith) in
-      ap (drop b) (sym (take-append-drop i (take e l)) ∙ ap (λ (x : List ℕ). x ++ drop i (take e l)) (take-take i e l k))
-      ∙ drop-append-le b (take i l) (slice i e l) (omega arith)
-
--- the clause at b as a part
+-- a run as a part
 pub front-part : (f : ℕ → Bool) (l : List ℕ) → take (length (front f l)) l ≡ front f l
 unfolding front
 front-part f [] = refl
 front-part f (x ∷ l) = cases (f x) (λ t. rw (t, front) (ap (λ (c : List ℕ). x ∷ c) (front-part f l))) (λ t. rw (t, front))
-
-clause-part : (l : List ℕ) (b e : ℕ) → b ≤ length l → e ≡ b + length (clauseAt l b) → slice b e l ≡ clauseAt l b
-unfolding clauseAt
-clause-part l b e h i =
-    rw (i, take-add b (length (front (λ x. not (eqb x 0)) (drop b l))) l, drop-at (take b l) (take (length (front (λ x. not (eqb x 0)) (drop b l))) (drop b l)) b (length-take-le b l h))
-    (front-part (λ x. not (eqb x 0)) (drop b l))
 
 -- Codes of entries
 
@@ -63,18 +42,6 @@ pub zero-code : (z : ℤ) → natAbs z ≡ 0 → codeOf z ≡ 0
 unfolding codeOf
 zero-code (pos n) e = omega arith
 zero-code (negsuc n) e = absurd (omega arith)
-
-code-zero : (z : ℤ) → codeOf z ≡ 0 → natAbs z ≡ 0
-unfolding codeOf
-code-zero (pos n) e = omega arith
-code-zero (negsuc n) e = absurd (omega arith)
-
--- an entry is 0 exactly where its code is
-pub entry-zero : (row : List ℤ) (i : ℕ) → natAbs (getD row i (pos 0)) ≡ 0 → getD (map codeOf row) i 0 ≡ 0
-entry-zero row i e = code-entry row i ∙ zero-code (getD row i (pos 0)) e
-
-pub entry-some : (row : List ℤ) (i : ℕ) → natAbs (getD row i (pos 0)) ≢ 0 → getD (map codeOf row) i 0 ≢ 0
-entry-some row i n e = n (code-zero (getD row i (pos 0)) (sym (code-entry row i) ∙ e))
 
 -- a row whose last entry is 0: every clause is ended by a 0
 pub ended-inside : (l : List ℕ) → getD l (length l - 1) 0 ≡ 0 → (b : ℕ) → b < length l → b + length (clauseAt l b) < length l
@@ -126,13 +93,6 @@ module _ {seen : List ℕ} {stamp : ℕ} {walked : List ℕ} (s : Stamped seen s
       has y (inl m) (no n) = getD-set-other seen x y stamp 0 n ∙ s .has y m
       has y (inr i) (no n) = absurd (n i)
 
-  stamped-again : getD seen x 0 ≡ stamp → Stamped seen stamp (walked ++ (x ∷ []))
-  stamped-again e = record { old = s .old; marked = λ y i. Memᴰ·append-left (x ∷ []) (s .marked y i); has = λ y m. has y (mem-snoc x walked m) }
-    where
-      has : (y : ℕ) → Mem y walked ⊎ (y ≡ x) → getD seen y 0 ≡ stamp
-      has y (inl m) = s .has y m
-      has y (inr i) = ap (λ (z : ℕ). getD seen z 0) i ∙ e
-
 pub stamped-old : {seen : List ℕ} {stamp : ℕ} {walked : List ℕ} → Stamped seen stamp walked → Older seen (stamp + 1)
 stamped-old s x = omega (arith, s .old x)
 
@@ -147,51 +107,21 @@ proper-more w x n m t = go (mem-snoc x w (t .plain)) (mem-snoc x w (t .inverse))
     go (inr p) (inl q) = m (Memᴰ·cast (ap negate (sym p)) q)
     go (inr p) (inr q) = negate-other (t .lit) (q ∙ sym p)
 
--- the literals of part b up to i are walked, and none of them is the inverse of another
-pub record Looking (l : List ℕ) (b e size stamp i : ℕ) (seen : List ℕ) : Type 0 where
-  pub low : b ≤ i
-  pub high : i ≤ e
-  pub room : length seen ≡ size
-  pub marks : Stamped seen stamp (slice b i l)
-  pub proper : ¬ Tautology (slice b i l)
+-- whether a clause is ignored, with one literal more
+tautology-more : (w : List ℕ) (x : ℕ) → mem (negate x) w || tautology w ≡ tautology (w ++ (x ∷ []))
+tautology-more w x = cases (mem (negate x) w) (λ m. rw m (sym (is-tautology _ (met m)))) (λ m. rw m (cases (tautology w) (λ t. t ∙ sym (is-tautology _ (kept (tautology-is w t)))) (λ t. t ∙ sym (none m t))))
+  where
+    met : mem (negate x) w ≡ true → Tautology (w ++ (x ∷ []))
+    met m = record { lit = x; plain = snoc-last x w; inverse = Memᴰ·append-left (x ∷ []) (mem-in (negate x) w m) }
 
-pub looking-none : {l : List ℕ} {b e size stamp : ℕ} {seen : List ℕ} → b ≤ e → length seen ≡ size → Older seen stamp → Looking l b e size stamp b seen
-looking-none {l} {b} {stamp = stamp} {seen} h r o =
-    record {
-      low = omega arith;
-      high = h;
-      room = r;
-      marks = rw (slice-empty b l) (stamped-none seen stamp o);
-      proper = rw (slice-empty b l) (λ t. List·Memᴰ·not-nil (t .plain));
-    }
+    kept : Tautology w → Tautology (w ++ (x ∷ []))
+    kept t = record { lit = t .lit; plain = Memᴰ·append-left (x ∷ []) (t .plain); inverse = Memᴰ·append-left (x ∷ []) (t .inverse) }
 
-module _ {l : List ℕ} {b e size stamp i : ℕ} {seen : List ℕ} (k : Looking l b e size stamp i seen) where
-  module _ (inside : i < e) (fits : e ≤ length l) {x y : ℕ} (at : x ≡ getD l i 0) (other : y ≡ negate x) where
-    pub looking-more : x < size → getD seen y 0 ≢ stamp → Looking l b e size stamp (i + 1) (set seen x stamp)
-    looking-more h n =
-        let part = part-more l b i x at (k .low) (omega arith) in
-        record {
-          low = omega (arith, k .low);
-          high = omega arith;
-          room = length-set seen x stamp ∙ k .room;
-          marks = rw part (stamped-more (k .marks) x (omega (arith, k .room)));
-          proper = rw part (proper-more (slice b i l) x (k .proper) (λ m. n (rw other (k .marks .has (negate x) m))));
-        }
-
-    pub looking-found : getD seen y 0 ≡ stamp → true ≡ tautology (slice b e l)
-    looking-found m =
-        let s = part-split l b i e (k .low) (omega arith) fits in
-        let c = slice-cons i e l 0 inside fits in
-        sym (is-tautology (slice b e l) (record {
-          lit = x;
-          plain = rw s (Memᴰ·append-right (slice b i l) (rw (c, ← at) (List·Memᴰ·head refl)));
-          inverse = rw s (Memᴰ·append-left (slice i e l) (k .marks .marked (negate x) (rw (← other) m)));
-        }))
-
-  pub looking-end : e ≤ i → false ≡ tautology (slice b e l)
-  looking-end h =
-      let s : i ≡ e = omega (arith, k .high) in
-      cases (tautology (slice b e l)) (λ t. absurd (k .proper (rw s (tautology-is (slice b e l) t)))) (λ t. sym t)
+    none : mem (negate x) w ≡ false → tautology w ≡ false → tautology (w ++ (x ∷ [])) ≡ false
+    none m t =
+        cases (tautology (w ++ (x ∷ [])))
+        (λ u. absurd (proper-more w x (λ y. false≢true (sym t ∙ is-tautology w y)) (λ y. false≢true (sym m ∙ in-mem w y)) (tautology-is (w ++ (x ∷ [])) u)))
+        (λ u. u)
 
 -- The literals of a clause, each once
 
@@ -221,71 +151,77 @@ literals-seen (y ∷ w) x m = cases (mem x w) (λ t. ap (λ (c : List ℕ). y �
         ∙ ap (λ (c : List ℕ). y ∷ c) (keep-append (λ z. not (eqb y z)) (literals w) (x ∷ []) ∙ ap (λ (c : List ℕ). keep (λ z. not (eqb y z)) (literals w) ++ c) (keep-out y x (sym e)) ∙ append-nil (keep (λ z. not (eqb y z)) (literals w)))
     here t (List·Memᴰ·tail k) = absurd (false≢true (sym t ∙ in-mem w k))
 
--- the literals of part b up to i are walked and written
-pub record Putting (l : List ℕ) (b e n size stamp : ℕ) (codes₀ : List ℕ) (m i : ℕ) (codes seen : List ℕ) : Type 0 where
-  pub low : b ≤ i
-  pub high : i ≤ e
-  pub behind : m ≤ i
-  pub room : length seen ≡ size
-  pub marks : Stamped seen stamp (slice b i l)
-  pub count : m ≡ n + length (literals (slice b i l))
-  pub written : codes ≡ sets codes₀ n (literals (slice b i l))
+-- The walk along a clause
 
-pub putting-none : {l : List ℕ} {b e n size stamp : ℕ} {codes₀ seen : List ℕ} → b ≤ e → n ≤ b → length seen ≡ size → Older seen stamp → Putting l b e n size stamp codes₀ n b codes₀ seen
+-- a mark tells whether a literal was walked
+mark-tells : {seen : List ℕ} {stamp : ℕ} {walked : List ℕ} → Stamped seen stamp walked → (x : ℕ) → eqb (getD seen x 0) stamp ≡ mem x walked
+mark-tells {seen} {stamp} {walked} s x =
+    cases (mem x walked) (λ m. eq-eqb _ stamp (s .has x (mem-in x walked m)) ∙ sym m) (λ m. ne-eqb _ stamp (λ e. false≢true (sym m ∙ in-mem walked (s .marked x e))) ∙ sym m)
+
+-- the literals w of the clause at place b are walked, and written at place n
+pub record Walking (l : List ℕ) (b n size stamp : ℕ) (codes₀ w codes seen : List ℕ) : Type 0 where
+  pub goes : clauseAt l b ≡ w ++ clauseAt l (b + length w)
+  pub room : length seen ≡ size
+  pub space : length codes ≡ length codes₀
+  pub marks : Stamped seen stamp w
+  pub written : take (n + length (literals w)) codes ≡ take n codes₀ ++ literals w
+
+pub walking-none : {l : List ℕ} {b n size stamp : ℕ} {codes₀ seen : List ℕ} → length seen ≡ size → Older seen stamp → Walking l b n size stamp codes₀ [] codes₀ seen
 unfolding literals
-putting-none {l} {b} {stamp = stamp} {seen = seen} h p r o =
+walking-none {l} {b} {n} {stamp = stamp} {codes₀ = codes₀} {seen = seen} r o =
     record {
-      low = omega arith;
-      high = h;
-      behind = p;
+      goes = ap (clauseAt l) (omega arith);
       room = r;
-      marks = rw (slice-empty b l) (stamped-none seen stamp o);
-      count = rw (slice-empty b l) (omega arith);
-      written = rw (slice-empty b l);
+      space = refl;
+      marks = stamped-none seen stamp o;
+      written = rw (append-nil (take n codes₀)) (ap (λ (i : ℕ). take i codes₀) {x = n + length (literals [])} {y = n} (omega arith));
     }
 
-module _ {l : List ℕ} {b e n size stamp : ℕ} {codes₀ : List ℕ} {m i : ℕ} {codes seen : List ℕ} (k : Putting l b e n size stamp codes₀ m i codes seen) where
-  pub putting-length : length codes ≡ length codes₀
-  putting-length = ap length (k .written) ∙ length-sets codes₀ n (literals (slice b i l))
+module _ {l : List ℕ} {b n size stamp : ℕ} {codes₀ w codes seen : List ℕ} (k : Walking l b n size stamp codes₀ w codes seen) where
+  abbrev put : ℕ
+  put = n + length (literals w)
 
-  module _ (inside : i < e) (fits : e ≤ length l) {x : ℕ} (at : x ≡ getD l i 0) where
-    pub putting-new : x < size → getD seen x 0 ≢ stamp → Putting l b e n size stamp codes₀ (m + 1) (i + 1) (set codes m x) (set seen x stamp)
-    putting-new h d =
-        let part = part-more l b i x at (k .low) (omega arith) in
-        let f : literals (slice b (i + 1) l) ≡ literals (slice b i l) ++ (x ∷ []) = ap literals part ∙ literals-new (slice b i l) x (λ j. d (k .marks .has x j)) in
+  -- with the stretch behind, and a literal more
+  module _ (x : ℕ) (at : x ≡ getD l (b + length w) 0) (some : x ≢ 0) (small : x < size) where
+    abbrev w′ : List ℕ
+    w′ = w ++ (x ∷ [])
+
+    size-more : length w′ ≡ length w + 1
+    size-more = length-append w (x ∷ [])
+
+    pub gathered-more : gatherOn x stamp (record { gathered = gatheredOf b n w; codes = codes; seen = seen }) .gathered ≡ gatheredOf b n w′
+    gathered-more = λ i. record { end = ends i; put = puts i; ignored = ignores i }
+      where
+        ends : b + length w + 1 ≡ b + length w′
+        ends = omega (arith, size-more)
+
+        puts : cond (eqb (getD seen x 0) stamp) put (put + 1) ≡ n + length (literals w′)
+        puts =
+            rw (mark-tells (k .marks) x)
+            (cases (mem x w) (λ m. rw (m, literals-seen w x (mem-in x w m))) (λ m. rw (m, literals-new w x (λ y. false≢true (sym m ∙ in-mem w y)), length-append (literals w) (x ∷ [])) (omega arith)))
+
+        ignores : eqb (getD seen (negate x) 0) stamp || tautology w ≡ tautology w′
+        ignores = rw (mark-tells (k .marks) (negate x)) (tautology-more w x)
+
+    pub walking-more : put < length codes → Walking l b n size stamp codes₀ w′ (gatherOn x stamp (record { gathered = gatheredOf b n w; codes = codes; seen = seen }) .codes) (set seen x stamp)
+    walking-more fits =
         record {
-          low = omega (arith, k .low);
-          high = omega arith;
-          behind = omega (arith, k .behind);
+          goes = k .goes ∙ ap (λ (c : List ℕ). w ++ c) (clause-goes-on l (b + length w) (λ e. some (at ∙ e)) ∙ rw (← at)) ∙ sym (append-assoc w (x ∷ []) (clauseAt l (b + length w + 1))) ∙ ap (λ (m : ℕ). w′ ++ clauseAt l m) (omega (arith, size-more));
           room = length-set seen x stamp ∙ k .room;
-          marks = rw part (stamped-more (k .marks) x (omega (arith, k .room)));
-          count = rw (f, length-append (literals (slice b i l)) (x ∷ [])) (omega (arith, k .count));
-          written = rw (f, sets-append codes₀ n (literals (slice b i l)) (x ∷ []), ← k .written, ← k .count);
+          space = rw (mark-tells (k .marks) x) (cases (mem x w) (λ m. rw m (k .space)) (λ m. rw m (length-set codes put x ∙ k .space)));
+          marks = stamped-more (k .marks) x (omega (arith, k .room));
+          written = rw (mark-tells (k .marks) x) (cases (mem x w) (λ m. rw (m, literals-seen w x (mem-in x w m)) (k .written)) (λ m. rw m (new (λ y. false≢true (sym m ∙ in-mem w y)))));
         }
+      where
+        new : ¬ Mem x w → take (n + length (literals w′)) (set codes put x) ≡ take n codes₀ ++ literals w′
+        new d =
+            let f = literals-new w x d in
+            let s : n + length (literals w′) ≡ suc put = ap (λ (c : List ℕ). n + length c) f ∙ rw (length-append (literals w) (x ∷ [])) (omega arith) in
+            ap (λ (m : ℕ). take m (set codes put x)) s ∙ take-suc-set codes put x fits ∙ ap (λ (c : List ℕ). c ++ (x ∷ [])) (k .written) ∙ append-assoc (take n codes₀) (literals w) (x ∷ []) ∙ ap (λ (c : List ℕ). take n codes₀ ++ c) (sym f)
 
-    pub putting-seen : getD seen x 0 ≡ stamp → Putting l b e n size stamp codes₀ m (i + 1) codes seen
-    putting-seen d =
-        let part = part-more l b i x at (k .low) (omega arith) in
-        let f : literals (slice b (i + 1) l) ≡ literals (slice b i l) = ap literals part ∙ literals-seen (slice b i l) x (k .marks .marked x d) in
-        record {
-          low = omega (arith, k .low);
-          high = omega arith;
-          behind = omega (arith, k .behind);
-          room = k .room;
-          marks = rw part (stamped-again (k .marks) x d);
-          count = rw f (k .count);
-          written = rw f (k .written);
-        }
-
-  module _ (end : e ≤ i) where
-    whole : i ≡ e
-    whole = omega (arith, k .high)
-
-    pub put-count : m + 1 ≡ n + length (literals (slice b e l)) + 1
-    put-count = rw (← whole) (omega (arith, k .count))
-
-    pub put-written : set codes m 0 ≡ sets codes₀ n (literals (slice b e l) ++ 0 ∷ [])
-    put-written = rw (← whole, sets-append codes₀ n (literals (slice b i l)) (0 ∷ []), ← k .written, ← k .count)
+  -- at the clause's end
+  pub walking-end : getD l (b + length w) 0 ≡ 0 → w ≡ clauseAt l b
+  walking-end e = sym (k .goes ∙ ap (λ (c : List ℕ). w ++ c) (clause-stops l (b + length w) e) ∙ append-nil w)
 
 -- The clauses of a row
 
@@ -298,73 +234,90 @@ unfolding normal keep
 normal-kept c cs t = rw (t, keep)
 
 -- the clauses from place b on are still to be written
-pub record Normalising (row : List ℤ) (size : ℕ) (codes₀ : List ℕ) (n b : ℕ) (codes seen : List ℕ) : Type 0 where
+pub record Normalising (row : List ℤ) (size space n b : ℕ) (codes seen : List ℕ) : Type 0 where
   pub behind : n ≤ b
   pub inside : b ≤ length row
-  pub room : length seen ≡ size
-  pub older : Older seen (2 * b + 1)
-  pub space : length codes ≡ length codes₀
-  pub count : length (normalRow row) ≡ n + length (rowOf (normal (clausesIn (drop b (map codeOf row)))))
-  pub written : sets codes₀ 0 (normalRow row) ≡ sets codes n (rowOf (normal (clausesIn (drop b (map codeOf row)))))
+  pub marks : length seen ≡ size
+  pub older : Older seen (b + 1)
+  pub room : length codes ≡ space
+  pub fits : length row ≤ space
+  pub written : normalRow row ≡ take n codes ++ rowOf (normal (clausesIn (drop b (map codeOf row))))
 
-pub normalising-none : {row : List ℤ} {size : ℕ} {codes₀ seen : List ℕ} → length seen ≡ size → Older seen 1 → Normalising row size codes₀ 0 0 codes₀ seen
+pub normalising-none : {row : List ℤ} {size space : ℕ} {codes seen : List ℕ} → length seen ≡ size → length codes ≡ space → length row ≤ space → Older seen 1 → Normalising row size space 0 0 codes seen
 unfolding normalRow clausesOf
-normalising-none r o =
-    record { behind = omega arith; inside = omega arith; room = r; older = o; space = refl; count = omega arith; written = refl }
+normalising-none m r f o = record { behind = omega arith; inside = omega arith; marks = m; older = o; room = r; fits = f; written = refl }
 
-module _ {row : List ℤ} {size : ℕ} {codes₀ : List ℕ} {n b : ℕ} {codes seen : List ℕ} (k : Normalising row size codes₀ n b codes seen) where
-  module _ (h : b < length row) {e : ℕ} (i : e ≡ b + length (clauseAt (map codeOf row) b)) where
-    clause : slice b e (map codeOf row) ≡ clauseAt (map codeOf row) b
-    clause = clause-part (map codeOf row) b e (omega (arith, length-map row codeOf)) i
+module _ {row : List ℤ} {size space n b : ℕ} {codes seen : List ℕ} (k : Normalising row size space n b codes seen) where
+  abbrev clause : List ℕ
+  clause = clauseAt (map codeOf row) b
 
-    rest : clausesIn (drop b (map codeOf row)) ≡ clauseAt (map codeOf row) b ∷ clausesIn (drop (e + 1) (map codeOf row))
-    rest = rw i (clauses-from (map codeOf row) b (omega (arith, length-map row codeOf)))
+  abbrev end : ℕ
+  end = b + length clause
 
-    pub within-row : getD (map codeOf row) (length row - 1) 0 ≡ 0 → e < length row
+  module _ (h : b < length row) where
+    rest : clausesIn (drop b (map codeOf row)) ≡ clause ∷ clausesIn (drop (end + 1) (map codeOf row))
+    rest = clauses-from (map codeOf row) b (omega (arith, length-map row codeOf))
+
+    pub within-row : getD (map codeOf row) (length row - 1) 0 ≡ 0 → end < length row
     within-row z =
         let s = length-map row codeOf in
-        omega (arith, i, ended-inside (map codeOf row) (rw s z) b (omega arith))
+        omega (arith, ended-inside (map codeOf row) (rw s z) b (omega arith))
 
-    module _ (inside : e < length row) where
-      pub normalising-ignored : {seen′ : List ℕ} → length seen′ ≡ size → Older seen′ (2 * b + 1 + 1) → tautology (slice b e (map codeOf row)) ≡ true → Normalising row size codes₀ n (e + 1) codes seen′
-      normalising-ignored r o t =
-          let s = ap normal rest ∙ normal-ignored (clauseAt (map codeOf row) b) (clausesIn (drop (e + 1) (map codeOf row))) (rw clause at t) in
+    module _ (inside : end < length row) (codes′ : List ℕ) {seen′ : List ℕ} (m : length seen′ ≡ size) (r : length codes′ ≡ space) (o : Older seen′ (b + 1 + 1))
+        (w : take (n + length (literals clause)) codes′ ≡ take n codes ++ literals clause) where
+      pub normalising-ignored : tautology clause ≡ true → Normalising row size space n (end + 1) codes′ seen′
+      normalising-ignored t =
           record {
             behind = omega (arith, k .behind);
             inside = omega arith;
-            room = r;
+            marks = m;
             older = λ x. omega (arith, o x);
-            space = k .space;
-            count = k .count ∙ ap (λ (ds : List (List ℕ)). n + length (rowOf ds)) s;
-            written = k .written ∙ ap (λ (ds : List (List ℕ)). sets codes n (rowOf ds)) s;
+            room = r;
+            fits = k .fits;
+            written =
+                k .written
+                ∙ ap (λ (ds : List (List ℕ)). take n codes ++ rowOf ds) (ap normal rest ∙ normal-ignored clause (clausesIn (drop (end + 1) (map codeOf row))) t)
+                ∙ ap (λ (c : List ℕ). c ++ rowOf (normal (clausesIn (drop (end + 1) (map codeOf row))))) (sym kept);
           }
+        where
+          -- what was put before is not touched
+          kept : take n codes′ ≡ take n codes
+          kept =
+              sym (take-take n (n + length (literals clause)) codes′ (omega arith)) ∙ ap (take n) w ∙ take-at (take n codes) (literals clause) n (length-take-le n codes (omega (arith, k .behind, k .inside, k .room, k .fits)))
 
-      pub normalising-kept : {n′ : ℕ} {codes′ seen′ : List ℕ} → length seen′ ≡ size → Older seen′ (2 * b + 1 + 1 + 1) → tautology (slice b e (map codeOf row)) ≡ false
-          → n′ ≡ n + length (literals (slice b e (map codeOf row))) + 1 → codes′ ≡ sets codes n (literals (slice b e (map codeOf row)) ++ 0 ∷ [])
-          → Normalising row size codes₀ n′ (e + 1) codes′ seen′
+      pub normalising-kept : tautology clause ≡ false → Normalising row size space (n + length (literals clause) + 1) (end + 1) (set codes′ (n + length (literals clause)) 0) seen′
       unfolding rowOf
-      normalising-kept {n′} r o t p q =
-          let c = clauseAt (map codeOf row) b in
-          let ds = normal (clausesIn (drop (e + 1) (map codeOf row))) in
-          let s : rowOf (normal (clausesIn (drop b (map codeOf row)))) ≡ (literals c ++ 0 ∷ []) ++ rowOf ds = ap rowOf (ap normal rest ∙ normal-kept c (clausesIn (drop (e + 1) (map codeOf row))) (rw clause at t)) ∙ sym (append-assoc (literals c) (0 ∷ []) (rowOf ds)) in
-          let u : n′ ≡ n + length (literals c ++ 0 ∷ []) = p ∙ rw (clause, length-append (literals c) (0 ∷ [])) (omega arith) in
+      normalising-kept t =
           record {
-            behind = omega (arith, k .behind, p, ap (λ (d : List ℕ). length (literals d)) clause, literals-length c);
+            behind = omega (arith, k .behind, literals-length clause);
             inside = omega arith;
-            room = r;
+            marks = m;
             older = λ x. omega (arith, o x);
-            space = ap length q ∙ length-sets codes n (literals (slice b e (map codeOf row)) ++ 0 ∷ []) ∙ k .space;
-            count = k .count ∙ rw (s, u, length-append (literals c ++ 0 ∷ []) (rowOf ds)) (omega arith);
-            written = k .written ∙ rw (s, q, clause, u) (sets-append codes n (literals c ++ 0 ∷ []) (rowOf ds));
+            room = length-set codes′ put 0 ∙ r;
+            fits = k .fits;
+            written =
+                k .written
+                ∙ ap (λ (ds : List (List ℕ)). take n codes ++ rowOf ds) (ap normal rest ∙ normal-kept clause later t)
+                ∙ sym (append-assoc (take n codes) (literals clause) (0 ∷ rowOf (normal later)))
+                ∙ sym (append-assoc (take n codes ++ literals clause) (0 ∷ []) (rowOf (normal later)))
+                ∙ ap (λ (c : List ℕ). c ++ rowOf (normal later)) (sym ended);
           }
+        where
+          put : ℕ
+          put = n + length (literals clause)
+
+          later : List (List ℕ)
+          later = clausesIn (drop (end + 1) (map codeOf row))
+
+          ended : take (put + 1) (set codes′ put 0) ≡ (take n codes ++ literals clause) ++ (0 ∷ [])
+          ended =
+              ap (λ (i : ℕ). take i (set codes′ put 0)) (add-one put) ∙ take-suc-set codes′ put 0 (omega (arith, k .behind, literals-length clause, r, k .fits)) ∙ ap (λ (c : List ℕ). c ++ (0 ∷ [])) w
 
   module _ (h : length row ≤ b) where
-    none : rowOf (normal (clausesIn (drop b (map codeOf row)))) ≡ []
+    pub normalised : take n codes ≡ normalRow row
     unfolding rowOf normal keep
-    none = ap (λ (cs : List (List ℕ)). rowOf (normal cs)) (clauses-end (map codeOf row) b (omega (arith, length-map row codeOf)))
+    normalised =
+        sym (k .written ∙ ap (λ (cs : List (List ℕ)). take n codes ++ rowOf (normal cs)) (clauses-end (map codeOf row) b (omega (arith, length-map row codeOf))) ∙ append-nil (take n codes))
 
     pub normalised-count : n ≡ length (normalRow row)
-    normalised-count = omega (arith, k .count, ap length none)
-
-    pub normalised : codes ≡ sets codes₀ 0 (normalRow row)
-    normalised = sym (k .written ∙ ap (sets codes n) none)
+    normalised-count = sym (length-take-le n codes (omega (arith, k .behind, k .inside, k .room, k .fits))) ∙ ap length normalised

@@ -16,7 +16,6 @@ ghost use mathlib.Core.Logic.{_↔_};
 ghost use mathlib.Core.List.{List, map};
 ghost use Prim.Native.Nat.{ℕ, _-_, _≤_, _<_};
 ghost use lib.ListN.{length, getD, take, drop, replicate};
-ghost use lib.Seq.{sets};
 ghost use Rattle.clauses.specs.Limit.{maxEntries};
 ghost use Rattle.clauses.specs.Code.{codeOf};
 ghost use Rattle.clauses.specs.Clause.{Present, clausesIn, clausesOf};
@@ -91,7 +90,7 @@ pub fn find_gates(row: &[i32], codes: &mut [u32], marks: &mut [u8]) -> Finding
     requires { ⌜ SmallEntries (now row) ⌝ }
     requires { ⌜ getD (map codeOf (now row)) (length (now row) - 1) 0 ≡ 0 ⌝ }
     ensures { λ r. ⌜ r .entries ≡ length (normalRow (now (row .entry))) ⌝ }
-    ensures { λ _. ⌜ now (codes .exit) ≡ sets (now (codes .entry)) 0 (normalRow (now (row .entry))) ⌝ }
+    ensures { λ _. ⌜ take (length (normalRow (now (row .entry)))) (now (codes .exit)) ≡ normalRow (now (row .entry)) ⌝ }
     ensures { λ _. ⌜ Found (clausesOf (now (row .entry))) (normalRow (now (row .entry))) (take (length (normalRow (now (row .entry)))) (now (marks .exit))) ⌝ }
     ensures { λ _. ⌜ drop (length (normalRow (now (row .entry)))) (now (marks .exit)) ≡ drop (length (normalRow (now (row .entry)))) (now (marks .entry)) ⌝ }
     ensures { λ r. ⌜ AreCounts (clausesOf (now (row .entry))) (r .counts .ands) (r .counts .xors) (r .counts .ites) ⌝ }

@@ -2,83 +2,75 @@
 
 use crate::fill::fill;
 use crate::literal::inverse;
-use clauses::entry::code_at;
-use clauses::entry::magnitude_at;
+use clauses::entry::code;
+use clauses::walk::Walk;
+use clauses::walk::next;
 ghost use mathlib.Core.Path.{_≡_};
-ghost use mathlib.Core.List.{[], _∷_, _++_, map};
+ghost use mathlib.Core.List.{map};
 ghost use Prim.Native.Nat.{_+_, _-_, _<_, _≤_};
-ghost use lib.ListN.{length, getD};
-ghost use lib.Seq.{sets, slice};
-ghost use Rattle.clauses.specs.Limit.{maxEntries};
+ghost use lib.IntN.{natAbs};
+ghost use lib.ListN.{length, getD, take};
+ghost use Rattle.clauses.specs.Limit.{maxNets, maxEntries};
 ghost use Rattle.clauses.specs.Code.{codeOf};
-ghost use Rattle.clauses.specs.Listing.{tautology, literals};
 ghost use Rattle.gates.specs.Found.{clauseAt};
-ghost use Rattle.gates.specs.Normal.{normalRow, maxCode, SmallEntries, Older};
+ghost use Rattle.gates.specs.Normal.{normalRow, maxCode, SmallEntries, Older, gatherOn, GatheredClause};
 
-// The place of the 0 that ends the clause at b, or the row's length.
-fn entries_end(row: &[i32], b: usize) -> usize
-    ensures { λ r. ⌜ r ≡ b + length (clauseAt (map codeOf (now (row .entry))) b) ⌝ }
-{
-    let mut i = b;
-    while magnitude_at(row, i) != 0 {
-        i += 1;
-    }
-    i
+// Of the literals of a clause that were gathered: the place behind them in the row, the place behind those that were put, and
+// whether a net and its inverse are among them.
+struct Gathered {
+    end: usize,
+    put: usize,
+    ignored: bool,
 }
 
-// Whether a net and its inverse are among the literals from b up to e. They are marked with the stamp.
-fn is_ignored(row: &[i32], b: usize, e: usize, seen: &mut [u32], stamp: u32) -> bool
-    requires { ⌜ (b ≤ e) × (e ≤ length (now row)) ⌝ }
-    requires { ⌜ SmallEntries (now row) ⌝ }
-    requires { ⌜ maxCode < length (now seen) ⌝ }
-    requires { ⌜ Older (now seen) stamp ⌝ }
-    ensures { λ r. ⌜ r ≡ tautology (slice b e (map codeOf (now (row .entry)))) ⌝ }
-    ensures { λ _. ⌜ Older (now (seen .exit)) (stamp + 1) ⌝ }
+// One literal more: it is put among the codes, unless it has the stamp already, and gets the stamp.
+fn gather_literal(t: Gathered, x: i32, codes: &mut [u32], seen: &mut [u32], stamp: u32) -> Gathered
+    requires { ⌜ (t .put ≤ t .end) × (t .end < length (now codes)) × (natAbs x ≤ maxNets) × (maxCode < length (now seen)) ⌝ }
+    ensures { λ r. ⌜ record { gathered = r; codes = now (codes .exit); seen = now (seen .exit) } ≡ gatherOn (codeOf x) stamp (record { gathered = t; codes = now (codes .entry); seen = now (seen .entry) }) ⌝ }
 {
-    let mut i = b;
-    while i < e {
-        let x = code_at(row, i);
-        if seen[inverse(x) as usize] == stamp {
-            return true;
-        }
-        seen[x as usize] = stamp;
-        i += 1;
+    let y = code(x);
+    let mut ignored = t.ignored;
+    if seen[inverse(y) as usize] == stamp {
+        ignored = true;
     }
-    false
+    let mut put = t.put;
+    if seen[y as usize] != stamp {
+        codes[put] = y;
+        put += 1;
+    }
+    seen[y as usize] = stamp;
+    Gathered {
+        end: t.end + 1,
+        put: put,
+        ignored: ignored,
+    }
 }
 
-// Writes the literals from b up to e, each once, and a 0, at place n of the codes; answers the place behind. The literals are
-// marked with the stamp.
-fn put_clause(
+// Gathers the clause at b: puts its literals, each once, at place n of the codes. They are marked with the stamp.
+fn gather_clause(
     row: &[i32],
     b: usize,
-    e: usize,
     codes: &mut [u32],
     n: usize,
     seen: &mut [u32],
     stamp: u32,
-) -> usize
-    requires { ⌜ (n ≤ b) × (b ≤ e) × (e < length (now row)) × (length (now row) ≤ length (now codes)) ⌝ }
-    requires { ⌜ SmallEntries (now row) ⌝ }
-    requires { ⌜ maxCode < length (now seen) ⌝ }
-    requires { ⌜ Older (now seen) stamp ⌝ }
-    ensures { λ r. ⌜ r ≡ n + length (literals (slice b e (map codeOf (now (row .entry))))) + 1 ⌝ }
-    ensures { λ _. ⌜ now (codes .exit) ≡ sets (now (codes .entry)) n (literals (slice b e (map codeOf (now (row .entry)))) ++ 0 ∷ []) ⌝ }
-    ensures { λ _. ⌜ Older (now (seen .exit)) (stamp + 1) ⌝ }
+) -> Gathered
+    requires { ⌜ (n ≤ b) × (length (now row) ≤ length (now codes)) × SmallEntries (now row) × (maxCode < length (now seen)) × Older (now seen) stamp ⌝ }
+    ensures { λ r. ⌜ GatheredClause (clauseAt (map codeOf (now (row .entry))) b) b n stamp (now (codes .entry)) (record { gathered = r; codes = now (codes .exit); seen = now (seen .exit) }) ⌝ }
 {
-    let mut m = n;
-    let mut i = b;
-    while i < e {
-        let x = code_at(row, i);
-        if seen[x as usize] != stamp {
-            seen[x as usize] = stamp;
-            codes[m] = x;
-            m += 1;
+    let mut gathered = Gathered {
+        end: b,
+        put: n,
+        ignored: false,
+    };
+    let mut walk = Walk { row, at: b };
+    loop {
+        let x = next(&mut walk);
+        if x == 0 {
+            return gathered;
         }
-        i += 1;
+        gathered = gather_literal(gathered, x, codes, seen, stamp);
     }
-    codes[m] = 0;
-    m + 1
 }
 
 // Writes the clauses of a row that are not ignored, each literal once, at the start of the codes; answers how many entries.
@@ -89,18 +81,19 @@ pub fn normalise(row: &[i32], codes: &mut [u32], seen: &mut [u32]) -> usize
     requires { ⌜ SmallEntries (now row) ⌝ }
     requires { ⌜ getD (map codeOf (now row)) (length (now row) - 1) 0 ≡ 0 ⌝ }
     ensures { λ r. ⌜ r ≡ length (normalRow (now (row .entry))) ⌝ }
-    ensures { λ _. ⌜ now (codes .exit) ≡ sets (now (codes .entry)) 0 (normalRow (now (row .entry))) ⌝ }
+    ensures { λ r. ⌜ take r (now (codes .exit)) ≡ normalRow (now (row .entry)) ⌝ }
 {
     fill(seen, 0);
     let mut n = 0;
     let mut b = 0;
     while b < row.len() {
-        let e = entries_end(row, b);
-        let stamp = 2 * (b as u32) + 1;
-        if !is_ignored(row, b, e, seen, stamp) {
-            n = put_clause(row, b, e, codes, n, seen, stamp + 1);
+        let gathered = gather_clause(row, b, codes, n, seen, (b as u32) + 1);
+        if !gathered.ignored {
+            let m = gathered.put;
+            codes[m] = 0;
+            n = m + 1;
         }
-        b = e + 1;
+        b = gathered.end + 1;
     }
     n
 }

@@ -5,8 +5,7 @@ use crate::normal::normalise;
 ghost use mathlib.Core.Path.{_≡_};
 ghost use mathlib.Core.List.{map};
 ghost use Prim.Native.Nat.{_+_, _-_, _<_, _≤_};
-ghost use lib.ListN.{length, getD};
-ghost use lib.Seq.{sets};
+ghost use lib.ListN.{length, getD, take};
 ghost use Rattle.clauses.specs.Limit.{maxEntries};
 ghost use Rattle.clauses.specs.Code.{codeOf};
 ghost use Rattle.gates.specs.Normal.{normalRow, maxCode, SmallEntries};
@@ -21,7 +20,7 @@ pub fn prepare(row: &[i32], codes: &mut [u32], index: &mut [u32], seen: &mut [u3
     requires { ⌜ SmallEntries (now row) ⌝ }
     requires { ⌜ getD (map codeOf (now row)) (length (now row) - 1) 0 ≡ 0 ⌝ }
     ensures { λ r. ⌜ r ≡ length (normalRow (now (row .entry))) ⌝ }
-    ensures { λ _. ⌜ now (codes .exit) ≡ sets (now (codes .entry)) 0 (normalRow (now (row .entry))) ⌝ }
+    ensures { λ _. ⌜ take (length (normalRow (now (row .entry)))) (now (codes .exit)) ≡ normalRow (now (row .entry)) ⌝ }
     ensures { λ _. ⌜ Indexed (normalRow (now (row .entry))) (now (index .exit)) ⌝ }
 {
     let n = normalise(row, codes, seen);

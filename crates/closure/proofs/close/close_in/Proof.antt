@@ -38,7 +38,7 @@ close-first-requires : tie.Need-close-first-requires
 close-first-requires c κs =
     let s = c .before .before .before .before .before .before .before .before .before .before .before .before .before .before .before .before .before .before .before .before .before .before in
     let f = c .before .before .before .before .before .before .before .before .before .before .before .before .before .find-gates in
-    let q = finder-left (s .args .v) (now (s .args .row)) (now (s .args .leads)) (now (s .args .work)) (s .pre .0) (now (s .args .codes)) _ _ _ (subst⁻¹ (λ (m : ℕ). length (now (s .args .row)) ≤ m) (s .pre .1 .0) (s .pre .0 .entries))
+    let q = finder-left (s .args .v) (now (s .args .row)) (now (s .args .leads)) (now (s .args .work)) (s .pre .0) _ _ _
     (f .ensures .0) (f .ensures .1 .0) (f .ensures .1 .1 .0) in
     let few = le-trans (q .few) (s .pre .0 .entries) in (
       (
@@ -85,7 +85,7 @@ returns : tie.Need-returns
 returns c =
     let s = c .before .before .before .before .before .before .before .before .before .before .before .before .before .before .before .before .before .before .before .before .before .before .before .before .before .before .before .before .before .before .before in
     let f = c .before .before .before .before .before .before .before .before .before .before .before .before .before .before .before .before .before .before .before .before .before .before .find-gates in
-    let q = finder-left (s .args .v) (now (s .args .row)) (now (s .args .leads)) (now (s .args .work)) (s .pre .0) (now (s .args .codes)) _ _ _ (subst⁻¹ (λ (m : ℕ). length (now (s .args .row)) ≤ m) (s .pre .1 .0) (s .pre .0 .entries))
+    let q = finder-left (s .args .v) (now (s .args .row)) (now (s .args .leads)) (now (s .args .work)) (s .pre .0) _ _ _
     (f .ensures .0) (f .ensures .1 .0) (f .ensures .1 .1 .0) in
     let h = steps-bound (s .args .v) (now (s .args .row)) (s .args .limit) (now (s .args .leads)) (now (s .args .work)) (s .pre .0) _ _ _ _ _ _ q (f .ensures .1 .1 .1 .1) _ _ _ _ (c .before .before .before .before .before .before .before .before .close-first .ensures) in
     absurd (omega (arith, c .if1 .taken))
@@ -112,7 +112,7 @@ returns-2 : tie.Need-returns-2
 returns-2 c =
     let s = c .before .before .before .before .before .before .before .before .before .before .before .before .before .before .before .before .before .before .before .before .before .before .before .before .before .before .before .before .before .before .before .before in
     let f = c .before .before .before .before .before .before .before .before .before .before .before .before .before .before .before .before .before .before .before .before .before .before .before .find-gates in
-    let q = finder-left (s .args .v) (now (s .args .row)) (now (s .args .leads)) (now (s .args .work)) (s .pre .0) (now (s .args .codes)) _ _ _ (subst⁻¹ (λ (m : ℕ). length (now (s .args .row)) ≤ m) (s .pre .1 .0) (s .pre .0 .entries))
+    let q = finder-left (s .args .v) (now (s .args .row)) (now (s .args .leads)) (now (s .args .work)) (s .pre .0) _ _ _
     (f .ensures .0) (f .ensures .1 .0) (f .ensures .1 .1 .0) in
     steps-accepted (s .args .v) (now (s .args .row)) (s .args .limit) (now (s .args .leads)) (now (s .args .work)) (s .pre .0) _ _ _ _ _ _ q (f .ensures .1 .1 .1 .1) _ _ _ _ (c .before .before .before .before .before .before .before .before .before .close-first .ensures) _
     (c .before .before .before .before .before .before .before .before .before .before .before .before .before .before .before .before .before .fill .ensures ∙ ap (λ (k : ℕ). replicate k 0) (length-take-le maxWork (now (s .args .work)) (s .pre .0 .work-room)))

@@ -9,7 +9,7 @@ use lib.ListN.{length, take, drop, replicate, length-replicate}
 use denote.Ref.{now}
 use Rattle.clauses.specs.Clause.{clausesOf}
 use Rattle.gates.specs.Normal.{normalRow}
-use Rattle.gates.proofs.NormalForm.{normal-length, normal-part, normal-row, normal-present}
+use Rattle.gates.proofs.NormalForm.{normal-length, normal-row, normal-present}
 use Rattle.gates.proofs.Fills.{zero-at}
 use Rattle.gates.proofs.finder.find_gates.Statement.{statement}
 use Rattle.gates.proofs.finder.find_gates.Tie as tie
@@ -19,7 +19,7 @@ fits c = omega (arith, c .prepare .ensures .0, normal-length (now (c .before .be
 
 -- the part that is written
 part : (c : tie.After-prepare) → take (c .prepare .result) (c .prepare .last .1 .0) ≡ normalRow (now (c .before .before .before .before .before .before .args .row))
-part c = rw (c .prepare .ensures .0, c .prepare .ensures .1 .0) (normal-part (now (c .before .before .before .before .before .before .args .row)) (c .before .before .before .before .before .before .pre .1 .1 .1 .1) (now (c .before .before .before .before .before .before .args .codes)) (c .before .before .before .before .before .before .pre .1 .0))
+part c = ap (λ (n : ℕ). take n (c .prepare .last .1 .0)) (c .prepare .ensures .0) ∙ c .prepare .ensures .1 .0
 
 slice-aggregate-prepare : tie.Need-slice-aggregate-prepare
 slice-aggregate-prepare c = search needs

@@ -1,13 +1,13 @@
 -- `gates::prepare::prepare` meets its contract.
 -- Assumes nothing.
 use mathlib.Core.Path.{_≡_, sym, _∙_, ap}
-use Prim.Native.Nat.{_≤_}
+use Prim.Native.Nat.{ℕ, _≤_}
 use native.Mathlib.Omega.{arith}
 use lib.ListN.{length, take}
 use denote.Ref.{now}
 use borrow.Author.Needs.{needs}
 use Rattle.gates.specs.Normal.{normalRow}
-use Rattle.gates.proofs.NormalForm.{normal-length, normal-part, normal-row}
+use Rattle.gates.proofs.NormalForm.{normal-length, normal-row}
 use Rattle.gates.proofs.prepare.prepare.Statement.{statement}
 use Rattle.gates.proofs.prepare.prepare.Tie as tie
 
@@ -16,9 +16,7 @@ fits c = omega (arith, c .normalise .ensures .0, normal-length (now (c .before .
 
 -- the part that is written
 part : (c : tie.After-normalise) → take (c .normalise .result) (c .normalise .last .1 .0) ≡ normalRow (now (c .before .before .before .before .before .before .args .row))
-part c =
-    let start = c .before .before .before .before .before .before in
-    rw (c .normalise .ensures .0, c .normalise .ensures .1) (normal-part (now (start .args .row)) (start .pre .1 .1 .1 .1 .1) (now (start .args .codes)) (start .pre .1 .0))
+part c = c .normalise .ensures .1
 
 normalise-requires : tie.Need-normalise-requires
 normalise-requires c κs = search needs
@@ -45,7 +43,7 @@ same-length-3 : tie.Need-same-length-3
 same-length-3 c = search needs
 
 returns : tie.Need-returns
-returns c = (c .before .before .before .before .before .before .before .before .before .normalise .ensures .0, (c .before .before .before .before .before .before .before .before .before .normalise .ensures .1, rw (part (c .before .before .before .before .before .before .before .before .before)) at (c .before .before .make-index .ensures)))
+returns c = (c .before .before .before .before .before .before .before .before .before .normalise .ensures .0, (ap (λ (n : ℕ). take n (c .before .before .before .before .before .before .before .before .before .normalise .last .1 .0)) (sym (c .before .before .before .before .before .before .before .before .before .normalise .ensures .0)) ∙ part (c .before .before .before .before .before .before .before .before .before), rw (part (c .before .before .before .before .before .before .before .before .before)) at (c .before .before .make-index .ensures)))
 
 pub prepare-spec : {M : Type 1} → statement M
 prepare-spec =
