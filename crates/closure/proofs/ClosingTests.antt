@@ -1,6 +1,7 @@
 -- The tests of closing: what a check of the list tells, and what acceptance leaves.
 -- Assumes nothing.
 use mathlib.Core.Path.{_≡_, _∙_}
+use mathlib.Core.Logic.{_≢_}
 use mathlib.Core.List.{List, _∷_}
 use Prim.Native.Nat.{ℕ, _+_, _≤_, _<_}
 use native.Mathlib.Omega.{arith}
@@ -19,13 +20,14 @@ use Rattle.clauses.specs.declared.checks.Check.the-variants as K
 use Rattle.clauses.proofs.Deciding.{NoneHolds, decide-accepted, decide-none-holds}
 use Rattle.clauses.proofs.Fitting.{entries-fit}
 use Rattle.clauses.proofs.Tests.{passed-none-holds, decide-append, decide-passed, decide-refused, sizes-passed, sizes-refused}
+use Rattle.rules.specs.declared.Verdict.the-variants.{Unfinished}
 use Rattle.rules.specs.Compute.{answer}
 use Rattle.closure.specs.Closing.{maxWork, leadsTooShort, workTooShort, listTests, checkList, Outcome, refused, accepted, closingTests, closing}
 use Rattle.closure.specs.Passed.{Passed, closeRounds}
 use Rattle.closure.specs.declared.close.Summary.{Summary}
 use Rattle.closure.specs.declared.close.Closing.{Closing}
 use Rattle.closure.specs.declared.close.Closing.the-variants.{Accepted, Refused}
-use Rattle.rules.proofs.Theorems.{rounds-bound}
+use Rattle.rules.proofs.Theorems.{rounds-bound, answer-finished}
 
 -- A check of the list
 
@@ -97,11 +99,15 @@ module _ (v c : ℕ) (row : List ℤ) (leads work : List ℕ) where
   unfolding checkList
   list-passed h = none-holds-passed (passed-none-holds (listTests v c row (length leads) (length work)) h)
 
--- Test 14 never holds
+-- Test 14 never holds, and V + 1 rounds are enough
 
 module _ (v : ℕ) (row : List ℤ) (limit : ℕ) (leads work : List ℕ) (fit : Fits v (clausesOf row)) where
   pub never-too-many : answer v (clausesOf row) limit .rounds ≤ v + 1
   never-too-many = let h = rounds-bound v (clausesOf row) fit limit in omega arith
+
+  -- a limit over V is enough: the list is settled, or there is a contradiction
+  pub never-unfinished : v < limit → answer v (clausesOf row) limit .verdict ≢ Unfinished
+  never-unfinished = answer-finished v (clausesOf row) fit limit
 
   pub rounds-accepted : closeRounds v row limit leads work ≡ accepted v leads work (answer v (clausesOf row) limit)
   unfolding closeRounds decide

@@ -11,6 +11,7 @@ use lib.ListN.{length, getD, take, drop, length-replicate}
 use lib.Seq.{take-at}
 use Rattle.clauses.specs.Clause.{clausesOf}
 use Rattle.clauses.specs.Listing.{mem, Fits}
+use Rattle.clauses.specs.Limit.{maxEntries}
 use Rattle.clauses.specs.Lists.{any, all}
 use Rattle.clauses.specs.Refusal.{numberOf, numbered, firstOver}
 use Rattle.clauses.specs.Renaming.{Renames, Images}
@@ -28,12 +29,20 @@ use Rattle.rules.specs.Renaming.{Renamed}
 use Rattle.rules.specs.Compute.{answer}
 use Rattle.closure.specs.Closing.{listTests, closingTests, Outcome, refused, summary, accepted, closing, Answers}
 use Rattle.closure.specs.Passed.{closeRounds}
-use Rattle.rules.proofs.Theorems.{answer-exact, answer-joined, answer-true, contradiction-true, settled-bound, rounds-bound, answer-finished, answer-beyond, demand-three}
-use Rattle.closure.proofs.ClosingTests.{closing-parts, none-holds-fits, rounds-accepted, accepted-fits, accepted-outcome}
+use Rattle.rules.proofs.Theorems.{answer-exact, answer-joined, answer-true, contradiction-true, settled-bound, rounds-bound, answer-beyond, demand-three}
+use Rattle.gates.proofs.CountBounds.{counts-few}
+use Rattle.rules.proofs.Groups.{own-length}
+use Rattle.closure.proofs.ClosingTests.{closing-parts, none-holds-fits, never-unfinished, rounds-accepted, accepted-fits, accepted-passed, accepted-outcome}
+use Rattle.closure.proofs.Finishing.{passed-findable}
 
 pub leads-length : {v : ℕ} {G : ℕ → ℕ → Type 0} {w : Verdict} {g : ℕ} {l : List ℕ} → Leads v G w g l → length l ≡ v
 leads-length {v} on-contradiction = length-replicate v noLead
 leads-length (otherwise d s f) = s
+
+-- there are at most V groups
+pub groups-few : {v : ℕ} {G : ℕ → ℕ → Type 0} {w : Verdict} {g : ℕ} {l : List ℕ} → Leads v G w g l → g ≤ v
+groups-few on-contradiction = omega arith
+groups-few {v} {l = l} (otherwise d s f) = own-length v l
 
 accepted-same : {s t : Summary} → Accepted s ≡ Accepted t → s ≡ t
 accepted-same e = cc
@@ -112,6 +121,13 @@ module _ (v c : ℕ) (row : List ℤ) (limit : ℕ) (leads work : List ℕ) (a :
   pub closing-bound : a .rounds ≤ suc v
   closing-bound = subst⁻¹ (λ (b : Answer). b .rounds ≤ suc v) answers-is (rounds-bound v cs fit limit)
 
+  -- and so are the counts: no list has more ANDs or XORs than entries, nor more ITEs than 2^30.
+  pub closing-counts : (a .ands ≤ maxEntries) × (a .xors ≤ maxEntries) × (a .ites ≤ 1073741824)
+  closing-counts =
+      let p = accepted-passed v c row limit leads work (summary a) (h .accepts) in
+      let findable = passed-findable v row leads work p in
+      counts-few row (p .entries) (findable .0) (findable .1) (record { and-count = closing-exact .ands; xor-count = closing-exact .xors; ite-count = closing-exact .ites })
+
 -- Every round limit from V + 1 up has the same answer, whatever the rows held.
 pub closing-beyond : (v c : ℕ) (row : List ℤ) (limit more : ℕ) (leads work leads′ work′ : List ℕ) (a b : Answer)
     → v < limit → limit ≤ more → Answers v c row limit leads work a → Answers v c row more leads′ work′ b → a ≡ b
@@ -131,7 +147,13 @@ closing-renamed v c d limit row sow leads work leads′ work′ a b ρ h k ren i
 -- A limit over V is enough: the list is settled, or there is a contradiction.
 pub closing-finished : (v c : ℕ) (row : List ℤ) (limit : ℕ) (leads work : List ℕ) (a : Answer) → v < limit → Answers v c row limit leads work a → a .verdict ≢ Unfinished
 closing-finished v c row limit leads work a h p e =
-    answer-finished v (clausesOf row) (fit v c row limit leads work a p) limit h (ap (λ (b : Answer). b .verdict) (sym (answers-is v c row limit leads work a p)) ∙ e)
+    never-unfinished v row limit leads work (fit v c row limit leads work a p) h (ap (λ (b : Answer). b .verdict) (sym (answers-is v c row limit leads work a p)) ∙ e)
+
+-- what `check_list` tests, 5 to 12: document 01's numbers and places, in its order
+pub list-numbered : (v c : ℕ) (row : List ℤ) (leads work : ℕ)
+    → numbered (listTests v c row leads work) ≡ (5, 0) ∷ (6, 0) ∷ (7, 0) ∷ (8, 0) ∷ (9, 0) ∷ (10, firstOver v row) ∷ (11, 0) ∷ (12, 0) ∷ []
+unfolding numbered
+list-numbered v c row leads work = refl
 
 -- 'closing 5 to 12 and 14': document 01's numbers and places, in its order.
 pub closing-numbered : (v c : ℕ) (row : List ℤ) (limit : ℕ) (leads work : List ℕ)

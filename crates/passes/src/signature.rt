@@ -1,4 +1,4 @@
-// The signature of an AND: the sum of the hashes of its inputs' different leads, T left out. Equal sets have equal signatures.
+// The signature of an AND: the sum of the hashes of the different leads at its inputs' places, F left out. Equal sets have equal signatures.
 
 ghost use mathlib.Core.Path.{_≡_};
 ghost use Prim.Native.Nat.{_≤_, _<_};

@@ -28,9 +28,8 @@ use Rattle.clauses.proofs.Tests.{decide-append}
 use Rattle.rules.specs.declared.Verdict.the-variants.{Unfinished}
 use Rattle.rules.specs.Answer.{Answer}
 use Rattle.rules.specs.Compute.{answer}
-use Rattle.rules.proofs.Theorems.{answer-finished}
 use Rattle.closure.specs.Closing.{maxWork, listTests, tooManyRounds}
-use Rattle.closure.proofs.ClosingTests.{none-holds-fits, never-too-many}
+use Rattle.closure.proofs.ClosingTests.{none-holds-fits, never-too-many, never-unfinished}
 use Rattle.sheet.specs.Sheet.{sheetText}
 use Rattle.sheet.specs.Writing.{Outcome, sheetBufferTooShort, refused, written, writingTests, writing}
 use Rattle.sheet.specs.Comparing.{emptyRow, sheetOf, comparing}
@@ -114,7 +113,7 @@ module _ (v c : ℕ) (row : List ℤ) (text : List ℕ) (few : v ≤ maxNets) wh
     writing-finished =
         let same : Written (length (sheetText v a)) ≡ Written n = sym (ap (λ (o : Outcome). o .result) is-written) ∙ h in
         let long : length (sheetText v a) ≡ n = cc in
-        (rw (is-written, ← long) (take-append-seam (sheetText v a) (drop (length (sheetText v a)) text)), answer-finished v (clausesOf row) fits (v + 1) (omega arith))
+        (rw (is-written, ← long) (take-append-seam (sheetText v a) (drop (length (sheetText v a)) text)), never-unfinished v row (v + 1) leads work fits (omega arith))
 
 -- The program never answers 4, 8, 9 or 14.
 pub comparing-refusals : (input text : List ℕ) (r : Refusal) → comparing input text .result ≡ Refused r → mem (numberOf r) compareNumbers ≡ true

@@ -8,23 +8,16 @@ use lib.IntN.{ℤ}
 use lib.ListN.{replicate}
 use Rattle.clauses.specs.Clause.{clausesOf}
 use Rattle.clauses.specs.Limit.{maxEntries}
-use Rattle.gates.proofs.CountBounds.{counts-few}
 use Rattle.rules.specs.declared.Verdict.{Verdict}
 use Rattle.rules.specs.declared.Verdict.the-variants.{Contradiction}
 use Rattle.rules.specs.Answer.{Answer, noLead, Leads, on-contradiction, otherwise, IsAnswer}
-use Rattle.rules.proofs.Groups.{own-length}
 use Rattle.closure.specs.Closing.{summary, Answers}
 use Rattle.closure.specs.Passed.{Passed}
 use Rattle.closure.proofs.ClosingTests.{accepted-passed}
-use Rattle.closure.proofs.ClosingTheorems.{leads-length, closing-exact, closing-bound}
-use Rattle.closure.proofs.Finishing.{passed-findable}
+use Rattle.closure.proofs.ClosingTheorems.{leads-length, groups-few, closing-exact, closing-bound, closing-counts}
 use Rattle.sheet.specs.Sheet.{sheetText}
 use Rattle.sheet.proofs.Determined.{Printable, sheet-determined}
 use Rattle.sheet.proofs.Written.{leads-small}
-
-groups-few : {v : ℕ} {G : ℕ → ℕ → Type 0} {w : Verdict} {g : ℕ} {l : List ℕ} → Leads v G w g l → g ≤ v
-groups-few on-contradiction = omega arith
-groups-few {v} {l = l} (otherwise d s f) = own-length v l
 
 leads-none : {v : ℕ} {G : ℕ → ℕ → Type 0} {w : Verdict} {g : ℕ} {l : List ℕ} → Leads v G w g l → w ≡ Contradiction → l ≡ replicate v noLead
 leads-none on-contradiction e = refl
@@ -51,9 +44,7 @@ answers-printable v c row limit leads work a h =
     exact = closing-exact v c row limit leads work a h
 
     few : (a .ands ≤ maxEntries) × (a .xors ≤ maxEntries) × (a .ites ≤ 1073741824)
-    few =
-        counts-few row (p .entries) (passed-findable v row leads work p .0) (passed-findable v row leads work p .1)
-        (record { and-count = exact .ands; xor-count = exact .xors; ite-count = exact .ites })
+    few = closing-counts v c row limit leads work a h
 
 -- The text determines V, the verdict, the counts and every lead.
 pub sheets-determined : (v w c d : ℕ) (row sow : List ℤ) (limit limit′ : ℕ) (leads work leads′ work′ : List ℕ) (a b : Answer)
