@@ -181,7 +181,7 @@ module _ {l : List ℕ} {b n size stamp : ℕ} {codes₀ w codes seen : List ℕ
   abbrev put : ℕ
   put = n + length (literals w)
 
-  -- with the stretch behind, and a literal more
+  -- one literal more
   module _ (x : ℕ) (at : x ≡ getD l (b + length w) 0) (some : x ≢ 0) (small : x < size) where
     abbrev w′ : List ℕ
     w′ = w ++ (x ∷ [])
