@@ -8,6 +8,7 @@ pub fn lists() -> Vec<(&'static str, List)> {
         ("ITEs of one select and output, rounds elsewhere", largest(|n| shared_ites(n, false))),
         ("ITEs of one select and output, joined one by one", largest(|n| shared_ites(n, true))),
         ("XORs that share two nets", largest(shared_xors)),
+        ("XORs, each with one half of an ITE more", largest(xors_with_halves)),
         ("ANDs over 26 nets", largest(ands_over_few)),
         ("80 exclusive nets, wide clauses", largest(|n| exclusive_nets(80, 10, 2, n))),
         ("75 exclusive nets, wide clauses, nets false one by one", largest(|n| exclusive_nets(75, 11, 42, n))),
@@ -35,15 +36,17 @@ fn chain(nets: impl Iterator<Item = i32>) -> Vec<Vec<i32>> {
     nets.first().map(|first| vec![*first]).into_iter().chain(steps).collect()
 }
 
-/// Net 2 = net 1 ? x : y for any two different x, y of n nets. A chain of units runs through these nets, or through half
-/// as many others.
+/// Net 2 = net 1 ? x : y for any x of n nets and any y of n others. A chain of units runs through these nets, first those of one side,
+/// or through half as many others.
 fn shared_ites(n: usize, through: bool) -> List {
-    let data = 3..n as i32 + 3;
-    let others = n as i32 + 3..(n + n / 2) as i32 + 3;
-    let side = |c: i32, x: i32| [vec![c, -2, x], vec![c, 2, -x]];
-    let mut clauses: Vec<_> = data.clone().flat_map(|x| [1, -1].into_iter().flat_map(move |c| side(c, x))).collect();
-    clauses.extend(chain(if through { data } else { others.clone() }));
-    List { nets: if through { n + 2 } else { others.end as usize - 1 }, clauses }
+    let n = n as i32;
+    let data = 3..2 * n + 3;
+    let others = data.end..data.end + n;
+    let side = |x: i32| if x < n + 3 { [vec![-1, -2, x], vec![-1, 2, -x]] } else { [vec![1, -2, x], vec![1, 2, -x]] };
+    let mut clauses: Vec<_> = data.clone().flat_map(side).collect();
+    let nets = if through { data.end } else { others.end } as usize - 1;
+    clauses.extend(chain(if through { data } else { others }));
+    List { nets, clauses }
 }
 
 /// The XORs of nets 1 and 2 with each of n nets: whichever of the two is the select and whichever the output, any two of the
@@ -51,6 +54,15 @@ fn shared_ites(n: usize, through: bool) -> List {
 fn shared_xors(n: usize) -> List {
     let signed = |x: i32| [vec![1, 2, x], vec![1, -2, -x], vec![-1, 2, -x], vec![-1, -2, x]];
     List { nets: n + 2, clauses: (3..n as i32 + 3).flat_map(signed).collect() }
+}
+
+/// n XORs of three nets that follow each other, and where the first of these is true the other two are equal: so each of the two is an
+/// ITE with the other for both data.
+fn xors_with_halves(n: usize) -> List {
+    let even = |a: i32, b: i32, c: i32| [vec![-a, b, c], vec![a, -b, c], vec![a, b, -c], vec![-a, -b, -c]];
+    let half = |a: i32, b: i32, c: i32| [vec![-a, -b, c], vec![-a, b, -c]];
+    let clauses = (1..=n as i32).flat_map(|a| even(a, a + 1, a + 2).into_iter().chain(half(a, a + 1, a + 2)));
+    List { nets: n + 2, clauses: clauses.collect() }
 }
 
 /// None of the first nets is true together with one of the first `outputs`.

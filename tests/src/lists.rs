@@ -27,13 +27,15 @@ pub struct Kind {
     pub make: fn(&mut Random) -> List,
 }
 
-pub const KINDS: [Kind; 13] = [
+pub const KINDS: [Kind; 15] = [
     Kind { name: "clauses", make: random_clauses },
     Kind { name: "gates", make: random_gates },
     Kind { name: "contradictory", make: contradictory },
     Kind { name: "near gates", make: near_gates },
     Kind { name: "xors", make: random_xors },
     Kind { name: "multiplexers", make: multiplexers },
+    Kind { name: "doubled pins", make: doubled_pins },
+    Kind { name: "inverse pins", make: inverse_pins },
     Kind { name: "ands", make: ands },
     Kind { name: "aliases", make: aliases },
     Kind { name: "chains", make: chains },
@@ -213,6 +215,46 @@ fn multiplexers(r: &mut Random) -> List {
     if r.once_in(3) {
         let p = pins(list.nets, 2, r);
         list.clauses.extend(equal_clauses(p[0], p[1]));
+    }
+    list
+}
+
+/// Multiplexers with t and e one literal, and what is near: t and e inverses, e on the net of c or of l, one half only.
+fn doubled_pins(r: &mut Random) -> List {
+    let mut list = List::over(r.between(3, 6));
+    for _ in 0..r.between(1, 6) {
+        let p = pins(list.nets, 3, r);
+        let (l, c, t) = (p[0], p[1], p[2]);
+        list.clauses.extend(match r.below(7) {
+            0..=2 => ite_clauses(l, c, t, t),
+            3 => ite_clauses(l, c, t, -t),
+            4 => ite_clauses(l, c, t, signed(c, r)),
+            5 => ite_clauses(l, c, t, signed(l, r)),
+            _ => ite_clauses(l, c, t, t)[..2].to_vec(),
+        });
+    }
+    if r.once_in(3) {
+        list.clauses.push(vec![literal(list.nets, r)]);
+    }
+    if r.once_in(3) {
+        let p = pins(list.nets, 2, r);
+        list.clauses.extend(equal_clauses(p[0], p[1]));
+    }
+    list
+}
+
+/// An XOR whose halves are each the side of some multiplexer, and a multiplexer with its select, whose data pins are joined to the
+/// halves' literals: these are inverses, so that there are no two multiplexers with equal pins.
+fn inverse_pins(r: &mut Random) -> List {
+    let mut list = List::over(8);
+    let p = pins(list.nets, 8, r);
+    let (l, c, t) = (p[0], p[1], p[2]);
+    list.clauses.extend(ite_clauses(l, c, t, p[3]));
+    list.clauses.extend(ite_clauses(l, c, p[4], -t));
+    list.clauses.extend(ite_clauses(p[5], c, p[6], p[7]));
+    list.clauses.extend([equal_clauses(p[6], t), equal_clauses(p[7], -t)].concat());
+    if r.once_in(3) {
+        list.clauses.push(vec![literal(list.nets, r)]);
     }
     list
 }

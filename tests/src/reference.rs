@@ -305,6 +305,12 @@ fn sides(
     sides
 }
 
+/// c, l and t are three different nets, and e is the same literal as t or on a fourth net.
+fn is_ite(output: Literal, select: Literal, on: Literal, off: Literal) -> bool {
+    let nets = |literals: &[Literal]| literals.iter().map(|x| x.abs()).collect::<BTreeSet<_>>().len();
+    nets(&[output, select, on]) == 3 && (off == on || nets(&[output, select, on, off]) == 4)
+}
+
 fn find_ites(clauses: &BTreeSet<Clause>, present: &HashSet<Vec<Literal>>) -> Vec<Ite> {
     let sides = sides(clauses, present);
     let mut ites = Vec::new();
@@ -312,8 +318,7 @@ fn find_ites(clauses: &BTreeSet<Clause>, present: &HashSet<Vec<Literal>>) -> Vec
         let Some(offs) = sides.get(&(-select, output)) else { continue };
         for &on in ons {
             for &off in offs {
-                let nets: BTreeSet<Literal> = [output, select, on, off].iter().map(|x| x.abs()).collect();
-                if nets.len() == 4 {
+                if is_ite(output, select, on, off) {
                     ites.push(Ite { output, select, on, off });
                 }
             }

@@ -37,25 +37,21 @@ impl Ites {
     /// The halves of one select and output: those for t first, each side sorted.
     fn add(&mut self, run: &[u64]) {
         let (thens, elses) = run.split_at(run.partition_point(|half| half >> 12 & 1 == 0));
-        if thens.is_empty() || elses.is_empty() || run.iter().all(|half| net_of(half) == net_of(&run[0])) {
-            return;
-        }
         let literals = |side: &[u64]| side.iter().map(|half| (half & 4_095) as u32).collect();
         let (select, output) = ((run[0] >> 36) as u32, (run[0] >> 24 & 4_095) as u32);
         let mut group = Group { select, output, thens: literals(thens), elses: literals(elses) };
-        self.count += group.count();
-        group.strike_out_single();
-        self.groups.push(group);
+        let count = group.count();
+        if count > 0 {
+            self.count += count;
+            group.strike_out_single();
+            self.groups.push(group);
+        }
     }
 }
 
 /// A half is select, output, side (0 for t) and literal, twelve bits each.
 fn half(condition: u32, output: u32, literal: u32) -> u64 {
     packed(&[condition & !1, output, condition & 1, literal])
-}
-
-fn net_of(half: &u64) -> u64 {
-    (half & 4_095) / 2
 }
 
 /// Clauses (k, x, y) and (k, not x, not y): where k is false, x is the inverse of y.
@@ -74,23 +70,22 @@ fn halves(clauses: &Clauses) -> Vec<u64> {
     found
 }
 
-/// How many literals of a sorted side are on the net.
-fn on_net(side: &[u32], net: u32) -> usize {
-    let from = side.partition_point(|&literal| literal / 2 < net);
-    side[from..].iter().take_while(|&&literal| literal / 2 == net).count()
+/// How many literals of a sorted side make a gate with the literal: all but its inverse.
+fn mates(side: &[u32], literal: u32) -> usize {
+    side.len() - usize::from(side.binary_search(&(literal ^ 1)).is_ok())
 }
 
 impl Group {
-    /// Pairs of different nets.
+    /// Pairs that are not inverses.
     fn count(&self) -> usize {
-        self.thens.iter().map(|t| self.elses.len() - on_net(&self.elses, t / 2)).sum()
+        self.thens.iter().map(|&t| mates(&self.elses, t)).sum()
     }
 
     /// Drops literals that no literal of the other side makes a gate with.
     fn strike_out_single(&mut self) {
         let (thens, elses) = (self.thens.clone(), self.elses.clone());
-        self.thens.retain(|t| on_net(&elses, t / 2) < elses.len());
-        self.elses.retain(|e| on_net(&thens, e / 2) < thens.len());
+        self.thens.retain(|&t| mates(&elses, t) > 0);
+        self.elses.retain(|&e| mates(&thens, e) > 0);
     }
 
     pub fn nets(&self) -> impl Iterator<Item = u32> + Clone + '_ {
@@ -103,7 +98,7 @@ impl Group {
     }
 }
 
-/// A side's leads: for each code the net that has it, or `MANY`.
+/// A side's leads: for each code the literal that has it, or `MANY`.
 struct Side {
     epoch: u32,
     seen: Vec<(u32, u32)>,
@@ -121,25 +116,24 @@ impl Side {
         self.epoch += 1;
         for &literal in literals {
             let place = &mut self.seen[grouping.lead(literal) as usize];
-            let first = place.0 != self.epoch || place.1 == literal / 2;
-            *place = (self.epoch, if first { literal / 2 } else { MANY });
+            *place = (self.epoch, if place.0 == self.epoch { MANY } else { literal });
         }
     }
 
-    /// `NONE`, the only net, or `MANY`.
-    fn net(&self, code: u32) -> u32 {
-        let (epoch, net) = self.seen[code as usize];
+    /// `NONE`, the only literal, or `MANY`.
+    fn literal(&self, code: u32) -> u32 {
+        let (epoch, literal) = self.seen[code as usize];
         if epoch == self.epoch {
-            net
+            literal
         } else {
             NONE
         }
     }
 }
 
-/// Two sides' nets, one of each, can be different.
-fn can_differ(a: u32, b: u32) -> bool {
-    a != NONE && b != NONE && (a != b || a == MANY)
+/// Two sides' literals, one of each, need not be inverses.
+fn can_mate(a: u32, b: u32) -> bool {
+    a != NONE && b != NONE && a != b ^ 1
 }
 
 /// Rules 7 and 8, over the groups that a changed lead touches.
@@ -191,7 +185,7 @@ impl<'a> Matching<'a> {
     fn match_pairs(&mut self, group: &Group, grouping: &Grouping, joins: &mut Vec<(u32, u32)>) {
         let select = grouping.lead(group.select);
         for &then in &group.thens {
-            for &other in group.elses.iter().filter(|&&e| e / 2 != then / 2) {
+            for &other in group.elses.iter().filter(|&&e| e != then ^ 1) {
                 let (t, e) = (grouping.lead(then), grouping.lead(other));
                 if t == e {
                     joins.push((group.output, t));
@@ -208,7 +202,7 @@ impl<'a> Matching<'a> {
 
     fn join_if_sides_meet(&mut self, group: &Group, grouping: &Grouping, joins: &mut Vec<(u32, u32)>) {
         self.thens.fill(&group.thens, grouping);
-        let meet = |e: &u32| can_differ(self.thens.net(grouping.lead(*e)), e / 2);
+        let meet = |e: &u32| self.thens.literal(grouping.lead(*e)) != NONE;
         joins.extend(group.elses.iter().filter(|e| meet(e)).map(|&e| (group.output, e)));
     }
 
@@ -244,7 +238,7 @@ impl<'a> Matching<'a> {
         let (thens, elses) = if crossed { (&other.elses, &other.thens) } else { (&other.thens, &other.elses) };
         let shared = |literals: &[u32], side: &Side| -> Vec<u32> {
             let leads = literals.iter().map(|&literal| grouping.lead(literal) ^ turn);
-            leads.filter(|&lead| side.net(lead) != NONE).collect()
+            leads.filter(|&lead| side.literal(lead) != NONE).collect()
         };
         let (ts, es) = (shared(thens, &self.thens), shared(elses, &self.elses));
         let Some(&first) = ts.first() else { return false };
@@ -257,8 +251,8 @@ impl<'a> Matching<'a> {
         self.other_thens.fill(thens, grouping);
         self.other_elses.fill(elses, grouping);
         let inverse = |&t: &u32| {
-            let own = can_differ(self.thens.net(t), self.elses.net(t ^ 1));
-            own && can_differ(self.other_thens.net(t ^ turn), self.other_elses.net(t ^ 1 ^ turn))
+            let own = can_mate(self.thens.literal(t), self.elses.literal(t ^ 1));
+            own && can_mate(self.other_thens.literal(t ^ turn), self.other_elses.literal(t ^ 1 ^ turn))
         };
         ts.iter().any(inverse)
     }

@@ -155,7 +155,7 @@ fn gate_cases() {
         b"p cnf 5 8\n-1 -4 2 0 -1 4 -2 0 1 -4 3 0 1 4 -3 0 -1 -5 -2 0 -1 5 2 0 1 -5 -3 0 1 5 3 0\n",
     );
     closes(
-        b"a multiplexer over three nets",
+        b"a multiplexer with both data pins on one net",
         3,
         b"p cnf 3 4\n-1 -3 2 0 -1 3 -2 0 1 -3 2 0 1 3 -2 0\n",
     );

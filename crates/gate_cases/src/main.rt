@@ -128,7 +128,7 @@ fn other_cases() {
         b"p cnf 5 8\n-1 -4 2 0 -1 4 -2 0 1 -4 3 0 1 4 -3 0 -1 -5 -2 0 -1 5 2 0 1 -5 -3 0 1 5 3 0\n",
     );
     counts(
-        b"a multiplexer over three nets",
+        b"a multiplexer with both data pins on one net",
         b"p cnf 3 4\n-1 -3 2 0 -1 3 -2 0 1 -3 2 0 1 3 -2 0\n",
     );
 }

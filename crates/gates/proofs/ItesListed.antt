@@ -1,11 +1,12 @@
 -- The ways to write an ITE; and the computed list has each ITE of the clause list once in each, and nothing else.
 -- Assumes nothing.
-use mathlib.Core.Path.{_≡_, sym, _∙_, ap, subst⁻¹}
-use mathlib.Core.Logic.{_≢_}
+use mathlib.Core.Path.{_≡_, refl, sym, _∙_, ap, subst⁻¹}
+use mathlib.Core.Logic.{_≢_, _⊎_, inl, inr, _↔_}
 use mathlib.Core.Bool.{Bool, true, false, not, cond}
 use mathlib.Core.List.{List, [], _∷_, List·Memᴰ, List·Memᴰ·head, List·Memᴰ·tail, List·Memᴰ·not-nil}
 use Prim.Native.Nat.{ℕ, _*_}
 use native.Mathlib.Omega.{arith}
+use native.Mathlib.Decide.{ℕ-discrete}
 use lib.Dec.{eqb}
 use Rattle.clauses.specs.Code.{negate, net}
 use Rattle.clauses.specs.Clause.{Mem, Present}
@@ -13,7 +14,7 @@ use Rattle.clauses.specs.Lists.{each, only}
 use Rattle.clauses.specs.Listing.{present, Fits}
 use Rattle.clauses.proofs.Lists.{and-both, both-and, not-eqb, eqb-not, in-first, in-second, in-third, each-has, has-each, each-elim, only-has, has-only, only-one, from-in}
 use Rattle.clauses.proofs.Distinct.{Distinct, each-distinct, only-distinct, one-distinct, from-distinct}
-use Rattle.clauses.proofs.Codes.{negate-negate}
+use Rattle.clauses.proofs.Codes.{negate-negate, negate-inj}
 use Rattle.clauses.proofs.Clauses.{present-is, is-present, fits-present}
 use Rattle.gates.specs.Sign.{flip}
 use Rattle.gates.specs.Gate.{Apart, IteGate}
@@ -21,86 +22,75 @@ use Rattle.gates.specs.Listing.{Ite, literalsOf, isThen, isElse, ites}
 
 -- The ways to write an ITE
 
--- four literals of different nets, two by two
-pub record Four (l c t e : ℕ) : Type 0 where
+-- three literals of different nets, two by two
+pub record ThreeNets (l c t : ℕ) : Type 0 where
   pub cl : net c ≢ net l
   pub tl : net t ≢ net l
   pub tc : net t ≢ net c
-  pub el : net e ≢ net l
-  pub ec : net e ≢ net c
-  pub et : net e ≢ net t
 
-pub four-apart : {l c t e : ℕ} → Four l c t e → Apart (l ∷ c ∷ t ∷ e ∷ [])
-four-apart {l} {c} {t} {e} f = Apart.more from-l (Apart.more from-c (Apart.more from-t (Apart.more (λ m k. absurd (List·Memᴰ·not-nil k)) Apart.empty)))
+pub nets-apart : {l c t : ℕ} → ThreeNets l c t → Apart (l ∷ c ∷ t ∷ [])
+nets-apart {l} {c} {t} f = Apart.more from-l (Apart.more from-c (Apart.more (λ m k. absurd (List·Memᴰ·not-nil k)) Apart.empty))
   where
-    from-l : (m : ℕ) → Mem m (c ∷ t ∷ e ∷ []) → net m ≢ net l
+    from-l : (m : ℕ) → Mem m (c ∷ t ∷ []) → net m ≢ net l
     from-l m (List·Memᴰ·head q) z = f .cl (sym (ap net q) ∙ z)
     from-l m (List·Memᴰ·tail (List·Memᴰ·head q)) z = f .tl (sym (ap net q) ∙ z)
-    from-l m (List·Memᴰ·tail (List·Memᴰ·tail (List·Memᴰ·head q))) z = f .el (sym (ap net q) ∙ z)
 
-    from-c : (m : ℕ) → Mem m (t ∷ e ∷ []) → net m ≢ net c
+    from-c : (m : ℕ) → Mem m (t ∷ []) → net m ≢ net c
     from-c m (List·Memᴰ·head q) z = f .tc (sym (ap net q) ∙ z)
-    from-c m (List·Memᴰ·tail (List·Memᴰ·head q)) z = f .ec (sym (ap net q) ∙ z)
 
-    from-t : (m : ℕ) → Mem m (e ∷ []) → net m ≢ net t
-    from-t m (List·Memᴰ·head q) z = f .et (sym (ap net q) ∙ z)
+pub apart-nets : {l c t : ℕ} → Apart (l ∷ c ∷ t ∷ []) → ThreeNets l c t
+apart-nets {c = c} {t = t} (Apart.more a (Apart.more b z)) = record { cl = a c in-first; tl = a t in-second; tc = b t in-first }
 
-pub apart-four : {l c t e : ℕ} → Apart (l ∷ c ∷ t ∷ e ∷ []) → Four l c t e
-apart-four {c = c} {t = t} {e = e} (Apart.more a (Apart.more b (Apart.more d z))) =
-    record {
-      cl = a c in-first;
-      tl = a t in-second;
-      tc = b t in-first;
-      el = a e in-third;
-      ec = b e in-second;
-      et = d e in-first;
-    }
+-- .. whatever their signs
+pub apart-signs : {l c t l′ c′ t′ : ℕ} → net l′ ≡ net l → net c′ ≡ net c → net t′ ≡ net t → Apart (l ∷ c ∷ t ∷ []) → Apart (l′ ∷ c′ ∷ t′ ∷ [])
+apart-signs p q r a =
+    let f = apart-nets a in
+    nets-apart (record { cl = λ z. f .cl (sym q ∙ z ∙ p); tl = λ z. f .tl (sym r ∙ z ∙ p); tc = λ z. f .tc (sym r ∙ z ∙ q) })
+
+-- 'e is either the same literal as t or on a fourth net'
+pub same-or-fourth : {l c t e : ℕ} → Apart (l ∷ c ∷ t ∷ []) → (Apart (l ∷ c ∷ e ∷ []) × (e ≢ negate t)) ↔ ((e ≡ t) ⊎ Apart (e ∷ l ∷ c ∷ t ∷ []))
+same-or-fourth {l} {c} {t} {e} a = (λ h. to (apart-nets (h .0)) (h .1) (ℕ-discrete (net e) (net t)), from)
+  where
+    to : ThreeNets l c e → e ≢ negate t → Dec (net e ≡ net t) → (e ≡ t) ⊎ Apart (e ∷ l ∷ c ∷ t ∷ [])
+    to f n (yes q) = inl (omega arith)
+    to f n (no d) = inr (Apart.more fourth a)
+      where
+        fourth : (m : ℕ) → Mem m (l ∷ c ∷ t ∷ []) → net m ≢ net e
+        fourth m (List·Memᴰ·head q) z = f .tl (sym z ∙ ap net q)
+        fourth m (List·Memᴰ·tail (List·Memᴰ·head q)) z = f .tc (sym z ∙ ap net q)
+        fourth m (List·Memᴰ·tail (List·Memᴰ·tail (List·Memᴰ·head q))) z = d (sym z ∙ ap net q)
+
+    from : (e ≡ t) ⊎ Apart (e ∷ l ∷ c ∷ t ∷ []) → Apart (l ∷ c ∷ e ∷ []) × (e ≢ negate t)
+    from (inl q) = (apart-signs refl refl (ap net q) a, λ z. omega arith)
+    from (inr (Apart.more h r)) =
+        let f = apart-nets a in
+        (nets-apart (record { cl = f .cl; tl = λ z. h l in-first (sym z); tc = λ z. h c in-second (sym z) }), λ z. h t in-third (omega arith))
 
 -- with l, t and e inverted
 pub ite-inverted : {cs : List (List ℕ)} {l c t e : ℕ} → IteGate cs l c t e → IteGate cs (negate l) c (negate t) (negate e)
-ite-inverted {cs} {l} {c} {t} {e} g =
+ite-inverted {t = t} {e = e} g =
     record {
-      apart =
-          four-apart
-          (record {
-            cl = omega (arith, f .cl);
-            tl = omega (arith, f .tl);
-            tc = omega (arith, f .tc);
-            el = omega (arith, f .el);
-            ec = omega (arith, f .ec);
-            et = omega (arith, f .et);
-          });
+      then-apart = apart-signs (omega arith) refl (omega arith) (g .then-apart);
+      else-apart = apart-signs (omega arith) refl (omega arith) (g .else-apart);
+      not-inverses = λ q. g .not-inverses (negate-inj e (negate t) q);
       then-up = rw negate-negate (g .then-down);
       then-down = rw (negate-negate t) (g .then-up);
       else-up = rw negate-negate (g .else-down);
       else-down = rw (negate-negate e) (g .else-up);
     }
-  where
-    f : Four l c t e
-    f = apart-four (g .apart)
 
 -- with c inverted, and t and e crossed
 pub ite-crossed : {cs : List (List ℕ)} {l c t e : ℕ} → IteGate cs l c t e → IteGate cs l (negate c) e t
-ite-crossed {cs} {l} {c} {t} {e} g =
+ite-crossed {c = c} g =
     record {
-      apart =
-          four-apart
-          (record {
-            cl = omega (arith, f .cl);
-            tl = f .el;
-            tc = omega (arith, f .ec);
-            el = f .tl;
-            ec = omega (arith, f .tc);
-            et = omega (arith, f .et);
-          });
+      then-apart = apart-signs refl (omega arith) refl (g .else-apart);
+      else-apart = apart-signs refl (omega arith) refl (g .then-apart);
+      not-inverses = λ q. g .not-inverses (omega arith);
       then-up = rw negate-negate (g .else-up);
       then-down = rw (negate-negate c) (g .else-down);
       else-up = g .then-up;
       else-down = g .then-down;
     }
-  where
-    f : Four l c t e
-    f = apart-four (g .apart)
 
 -- in the way that the bits say
 abbrev pub rewritten : Bool → Bool → Ite → Ite
@@ -127,19 +117,13 @@ ite-is cs l c t e h k =
     let a₄ = and-both (present cs (negate c ∷ negate l ∷ t ∷ [])) _ (a₃ .1) in
     let b₁ = and-both (not (eqb (net e) (net l))) _ k in
     let b₂ = and-both (not (eqb (net e) (net c))) _ (b₁ .1) in
-    let b₃ = and-both (not (eqb (net e) (net t))) _ (b₂ .1) in
+    let b₃ = and-both (not (eqb e (negate t))) _ (b₂ .1) in
     let b₄ = and-both (present cs (c ∷ negate l ∷ e ∷ [])) _ (b₃ .1) in
+    let cl = not-eqb (net c) (net l) (a₁ .0) in
     record {
-      apart =
-          four-apart
-          (record {
-            cl = not-eqb (net c) (net l) (a₁ .0);
-            tl = not-eqb (net t) (net l) (a₂ .0);
-            tc = not-eqb (net t) (net c) (a₃ .0);
-            el = not-eqb (net e) (net l) (b₁ .0);
-            ec = not-eqb (net e) (net c) (b₂ .0);
-            et = not-eqb (net e) (net t) (b₃ .0);
-          });
+      then-apart = nets-apart (record { cl = cl; tl = not-eqb (net t) (net l) (a₂ .0); tc = not-eqb (net t) (net c) (a₃ .0) });
+      else-apart = nets-apart (record { cl = cl; tl = not-eqb (net e) (net l) (b₁ .0); tc = not-eqb (net e) (net c) (b₂ .0) });
+      not-inverses = not-eqb e (negate t) (b₃ .0);
       then-up = present-is cs (negate c ∷ negate l ∷ t ∷ []) (a₄ .0);
       then-down = present-is cs (negate c ∷ l ∷ negate t ∷ []) (a₄ .1);
       else-up = present-is cs (c ∷ negate l ∷ e ∷ []) (b₄ .0);
@@ -169,8 +153,11 @@ ite-entry {v} {cs} fit {l} {c} {t} {e} g =
     (has-each _ (literal-in fit (g .else-up) e in-third)
     (has-only else-test in-first)))))
   where
-    f : Four l c t e
-    f = apart-four (g .apart)
+    f : ThreeNets l c t
+    f = apart-nets (g .then-apart)
+
+    k : ThreeNets l c e
+    k = apart-nets (g .else-apart)
 
     then-test : isThen cs l c t ≡ true
     then-test =
@@ -181,9 +168,9 @@ ite-entry {v} {cs} fit {l} {c} {t} {e} g =
 
     else-test : isElse cs l c t e ≡ true
     else-test =
-        both-and (eqb-not (net e) (net l) (f .el))
-        (both-and (eqb-not (net e) (net c) (f .ec))
-        (both-and (eqb-not (net e) (net t) (f .et))
+        both-and (eqb-not (net e) (net l) (k .tl))
+        (both-and (eqb-not (net e) (net c) (k .tc))
+        (both-and (eqb-not e (negate t) (g .not-inverses))
         (both-and (is-present cs (c ∷ negate l ∷ e ∷ []) (g .else-up)) (is-present cs (c ∷ l ∷ negate e ∷ []) (g .else-down)))))
 
 -- None twice

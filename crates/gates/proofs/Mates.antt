@@ -10,7 +10,7 @@ use native.Mathlib.Decide.{ℕ-discrete}
 use borrow.Author.Tests.{eq-eqb, ne-eqb, eqb-true}
 use lib.Dec.{eqb}
 use lib.ListN.{length, getD}
-use Rattle.clauses.specs.Code.{negate, net}
+use Rattle.clauses.specs.Code.{negate}
 use Rattle.clauses.specs.Clause.{clausesIn, Present}
 use Rattle.clauses.proofs.Lists.{and-both, both-and, not-eqb, eqb-not, keep-has, has-keep}
 use Rattle.clauses.proofs.Distinct.{Distinct, empty, more}
@@ -84,7 +84,7 @@ module _ {row : List ℕ} (normal : Normal row) where
     pub paired : isPaired row (m .place) ≡ true
     pub select : getD row (m .place) 0 ≡ negate (getD row (h .place) 0)
     pub same : output row m ≡ output row h
-    pub apart : net (side row m) ≢ net (side row h)
+    pub not-inverses : side row m ≢ negate (side row h)
 
   pub mate-is : (h m : Half) → List·Memᴰ m (mates row h) → Mate h m
   unfolding mates isMate isOf isPairedAt
@@ -93,13 +93,13 @@ module _ {row : List ℕ} (normal : Normal row) where
       let b = and-both (isOf row (negate (getD row (h .place) 0)) (output row h) m) _ a in
       let c = and-both (isPairedAt row (negate (getD row (h .place) 0)) (m .place)) _ (b .0) in
       let d = and-both (isPaired row (m .place)) _ (c .0) in
-      record { paired = d .0; select = eqb-true _ _ (d .1); same = eqb-true _ _ (c .1); apart = not-eqb _ _ (b .1) }
+      record { paired = d .0; select = eqb-true _ _ (d .1); same = eqb-true _ _ (c .1); not-inverses = not-eqb _ _ (b .1) }
 
   pub is-mate : (h m : Half) → Mate h m → List·Memᴰ m (mates row h)
   unfolding mates isMate isOf isPairedAt
   is-mate h m k =
       has-keep _ (allHalves row) (in-all row m (place-inside row (m .place) (k .paired)))
-      (both-and (both-and (both-and (k .paired) (eq-eqb _ _ (k .select))) (eq-eqb _ _ (k .same))) (eqb-not _ _ (k .apart)))
+      (both-and (both-and (both-and (k .paired) (eq-eqb _ _ (k .select))) (eq-eqb _ _ (k .same))) (eqb-not _ _ (k .not-inverses)))
 
 module _ {cs : List (List ℕ)} {row : List ℕ} (normal : Normal row) (same : (c : List ℕ) → Present cs c ↔ Present (clausesIn row) c) where
   -- a half and a mate make an ITE
@@ -108,7 +108,7 @@ module _ {cs : List (List ℕ)} {row : List ℕ} (normal : Normal row) (same : (
   unfolding output side
   mate-ite h m p k =
       ite-present (λ c. same c .1)
-      (sides-ite (half-side normal (h .place) p (h .after)) (rw (← k .same, ← k .select) (half-side normal (m .place) (k .paired) (m .after))) (k .apart))
+      (sides-ite (half-side normal (h .place) p (h .after)) (rw (← k .same, ← k .select) (half-side normal (m .place) (k .paired) (m .after))) (k .not-inverses))
 
   -- every ITE is made so
   pub record Halved (l c t e : ℕ) : Type 0 where
@@ -135,7 +135,7 @@ module _ {cs : List (List ℕ)} {row : List ℕ} (normal : Normal row) (same : (
           paired = m .paired;
           select = m .select ∙ ap negate (sym (h .select));
           same = m .output ∙ sym (h .output);
-          apart = rw (m .side, h .side) (s .2);
+          not-inverses = rw (m .side, h .side) (s .2);
         };
         select = h .select;
         out = h .output;

@@ -26,7 +26,9 @@ module _ {cs ds : List (List ℕ)} (more : (d : List ℕ) → Present cs d → P
   pub ite-present : {l c t e : ℕ} → IteGate cs l c t e → IteGate ds l c t e
   ite-present g =
       record {
-        apart = g .apart;
+        then-apart = g .then-apart;
+        else-apart = g .else-apart;
+        not-inverses = g .not-inverses;
         then-up = more _ (g .then-up);
         then-down = more _ (g .then-down);
         else-up = more _ (g .else-up);

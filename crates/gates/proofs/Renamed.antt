@@ -85,7 +85,9 @@ module _ (ρ σ : ℕ → ℕ) (ren : Renaming ρ σ) where
     pub ite-renamed : {l c t e : ℕ} → IteGate cs l c t e → IteGate ds (ρ l) (ρ c) (ρ t) (ρ e)
     ite-renamed {l} {c} {t} {e} g =
         record {
-          apart = apart-renamed (g .apart);
+          then-apart = apart-renamed (g .then-apart);
+          else-apart = apart-renamed (g .else-apart);
+          not-inverses = λ q. g .not-inverses (renaming-injective ρ σ ren (q ∙ sym (ren .inverse t)));
           then-up = rw (← ren .inverse c, ← ren .inverse l) (image _ (g .then-up));
           then-down = rw (← ren .inverse c, ← ren .inverse t) (image _ (g .then-down));
           else-up = rw (← ren .inverse l) (image _ (g .else-up));

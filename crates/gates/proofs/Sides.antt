@@ -22,6 +22,7 @@ use Rattle.gates.specs.Mark.{isFirst, startOf}
 use Rattle.gates.specs.Ites.{inThree, other, isPaired}
 use Rattle.gates.specs.declared.search.Place.{Place}
 use Rattle.gates.specs.declared.search.Place.the-variants.{At, Nothing}
+use Rattle.gates.proofs.ItesListed.{nets-apart, apart-nets, apart-signs}
 use Rattle.gates.proofs.Rows.{LiteralOf, literal-in, literal-of, starts-listed}
 use Rattle.gates.proofs.StartOf.{start-is}
 use Rattle.gates.proofs.Places.{First, place-first, first-only, nothing-present}
@@ -56,55 +57,35 @@ three-equal p q r = rw (p, q, r)
 -- A side
 
 pub record Side (cs : List (List ℕ)) (l c t : ℕ) : Type 0 where
-  pub select-output : net c ≢ net l
-  pub side-output : net t ≢ net l
-  pub side-select : net t ≢ net c
+  pub apart : Apart (l ∷ c ∷ t ∷ [])
   pub up : Present cs (negate c ∷ negate l ∷ t ∷ [])
   pub down : Present cs (negate c ∷ l ∷ negate t ∷ [])
 
 present-equal : {cs : List (List ℕ)} {c d : List ℕ} → d ≡ c → Present cs c → Present cs d
 present-equal {cs} e h = subst⁻¹ (Present cs) e h
 
-pub sides-ite : {cs : List (List ℕ)} {l c t e : ℕ} → Side cs l c t → Side cs l (negate c) e → net e ≢ net t → IteGate cs l c t e
-sides-ite {l = l} {c = c} {t = t} {e = e} s r n =
+pub sides-ite : {cs : List (List ℕ)} {l c t e : ℕ} → Side cs l c t → Side cs l (negate c) e → e ≢ negate t → IteGate cs l c t e
+sides-ite {c = c} s r n =
     record {
-      apart = Apart.more first (Apart.more second (Apart.more third (Apart.more (λ m k. absurd (List·Memᴰ·not-nil k)) Apart.empty)));
+      then-apart = s .apart;
+      else-apart = apart-signs refl (omega arith) refl (r .apart);
+      not-inverses = n;
       then-up = s .up;
       then-down = s .down;
       else-up = present-equal (three-equal (sym (negate-negate c)) refl refl) (r .up);
       else-down = present-equal (three-equal (sym (negate-negate c)) refl refl) (r .down);
     }
-  where
-    third : (m : ℕ) → Mem m (e ∷ []) → net m ≢ net t
-    third m (List·Memᴰ·head q) = rw q n
-    third m (List·Memᴰ·tail k) = absurd (List·Memᴰ·not-nil k)
 
-    second : (m : ℕ) → Mem m (t ∷ e ∷ []) → net m ≢ net c
-    second m (List·Memᴰ·head q) = rw q (s .side-select)
-    second m (List·Memᴰ·tail (List·Memᴰ·head q)) = rw q (λ h. r .side-select (omega arith))
-    second m (List·Memᴰ·tail (List·Memᴰ·tail k)) = absurd (List·Memᴰ·not-nil k)
-
-    first : (m : ℕ) → Mem m (c ∷ t ∷ e ∷ []) → net m ≢ net l
-    first m (List·Memᴰ·head q) = rw q (s .select-output)
-    first m (List·Memᴰ·tail (List·Memᴰ·head q)) = rw q (s .side-output)
-    first m (List·Memᴰ·tail (List·Memᴰ·tail (List·Memᴰ·head q))) = rw q (r .side-output)
-    first m (List·Memᴰ·tail (List·Memᴰ·tail (List·Memᴰ·tail k))) = absurd (List·Memᴰ·not-nil k)
-
-pub ite-sides : {cs : List (List ℕ)} {l c t e : ℕ} → IteGate cs l c t e → Side cs l c t × Side cs l (negate c) e × (net e ≢ net t)
-ite-sides {cs} {l} {c} {t} {e} g = go (g .apart)
-  where
-    go : Apart (l ∷ c ∷ t ∷ e ∷ []) → Side cs l c t × Side cs l (negate c) e × (net e ≢ net t)
-    go (Apart.more f (Apart.more h (Apart.more k r))) = (
-      record { select-output = f c mem-one; side-output = f t mem-two; side-select = h t (List·Memᴰ·head refl); up = g .then-up; down = g .then-down },
-      record {
-        select-output = λ q. f c mem-one (omega arith);
-        side-output = f e mem-three;
-        side-select = λ q. h e (List·Memᴰ·tail (List·Memᴰ·head refl)) (omega arith);
-        up = present-equal (three-equal (negate-negate c) refl refl) (g .else-up);
-        down = present-equal (three-equal (negate-negate c) refl refl) (g .else-down);
-      },
-      k e (List·Memᴰ·head refl),
-    )
+pub ite-sides : {cs : List (List ℕ)} {l c t e : ℕ} → IteGate cs l c t e → Side cs l c t × Side cs l (negate c) e × (e ≢ negate t)
+ite-sides {c = c} g = (
+  record { apart = g .then-apart; up = g .then-up; down = g .then-down },
+  record {
+    apart = apart-signs refl (omega arith) refl (g .else-apart);
+    up = present-equal (three-equal (negate-negate c) refl refl) (g .else-up);
+    down = present-equal (three-equal (negate-negate c) refl refl) (g .else-down);
+  },
+  g .not-inverses,
+)
 
 -- The halves of a row
 
@@ -252,17 +233,13 @@ module _ {row : List ℕ} (normal : Normal row) where
       go : (a : Bool) → Side (clausesIn row) (negate (other row p a)) (negate (getD row p 0)) (other row p (not a))
       go false =
           record {
-            select-output = λ e. xy (omega arith);
-            side-output = λ e. yz (omega arith);
-            side-select = λ e. xz (omega arith);
+            apart = nets-apart (record { cl = λ e. xy (omega arith); tl = λ e. yz (omega arith); tc = λ e. xz (omega arith) });
             up = present-equal (three-equal (negate-negate _) (negate-negate _) refl) (clause-present p k);
             down = present-equal (three-equal (negate-negate _) refl refl) (k .companion);
           }
       go true =
           record {
-            select-output = λ e. xz (omega arith);
-            side-output = λ e. yz (omega arith);
-            side-select = λ e. xy (omega arith);
+            apart = nets-apart (record { cl = λ e. xz (omega arith); tl = λ e. yz (omega arith); tc = λ e. xy (omega arith) });
             up = present-equal (three-equal (negate-negate _) (negate-negate _) refl) (present-same (swap _ _ _) (clause-present p k));
             down = present-equal (three-equal (negate-negate _) refl refl) (present-same (swap _ _ _) (k .companion));
           }
@@ -377,7 +354,8 @@ module _ {row : List ℕ} (normal : Normal row) where
   pub side-half : (l c t : ℕ) → Side (clausesIn row) l c t → HalfOf (negate c) (negate l) t
   side-half l c t s =
       let f = found (negate c ∷ negate l ∷ t ∷ []) (s .up) in
-      half-of (negate c) (negate l) t (λ e. s .select-output (omega arith)) (λ e. s .side-select (omega arith)) (λ e. s .side-output (omega arith)) (f .0) (f .1)
+      let n = apart-nets (s .apart) in
+      half-of (negate c) (negate l) t (λ e. n .cl (omega arith)) (λ e. n .tc (omega arith)) (λ e. n .tl (omega arith)) (f .0) (f .1)
       (present-equal (three-equal refl (negate-negate l) refl) (s .down))
 
   -- .. and one only

@@ -41,9 +41,13 @@ pub record XorGate (cs : List (List ℕ)) (ls : List ℕ) (odd : Bool) : Type 0 
   pub apart : Apart ls
   pub all : (signs : ℕ → Bool) → parity signs ls ≡ not odd → Present cs (inverted signs ls)
 
--- 'l = c ? t : e, over four different nets, when (-c, -l, t), (-c, l, -t), (c, -l, e), (c, l, -e) are all present'
+-- 'l = c ? t : e, .., when (-c, -l, t), (-c, l, -t), (c, -l, e), (c, l, -e) are all present.' Document 02: 'c, l and t are three different
+-- nets and e is either the same literal as t or on a fourth net; t and e as inverses remain an XOR.' That is to say: l, c and e are three
+-- different nets too, and e is not the inverse of t (`same-or-fourth`, proofs/ItesListed).
 pub record IteGate (cs : List (List ℕ)) (l c t e : ℕ) : Type 0 where
-  pub apart : Apart (l ∷ c ∷ t ∷ e ∷ [])
+  pub then-apart : Apart (l ∷ c ∷ t ∷ [])
+  pub else-apart : Apart (l ∷ c ∷ e ∷ [])
+  pub not-inverses : e ≢ negate t
   pub then-up : Present cs (negate c ∷ negate l ∷ t ∷ [])
   pub then-down : Present cs (negate c ∷ l ∷ negate t ∷ [])
   pub else-up : Present cs (c ∷ negate l ∷ e ∷ [])

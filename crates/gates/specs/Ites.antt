@@ -7,7 +7,7 @@ use mathlib.Core.List.{List, [], _∷_, map}
 use Prim.Native.Nat.{ℕ, zero, suc, _+_, _*_, _/_, _%_, _≤_, _<_}
 use lib.Dec.{eqb, ltb}
 use lib.ListN.{length, getD}
-use Rattle.clauses.specs.Code.{negate, net}
+use Rattle.clauses.specs.Code.{negate}
 use Rattle.clauses.specs.Clause.{clausesIn}
 use Rattle.clauses.specs.Lists.{keep, each}
 use Rattle.clauses.specs.Listing.{present}
@@ -77,11 +77,11 @@ isOf row x y h = isPairedAt row x (h .place) && eqb (output row h) y
 unfoldable pub isHalf : List ℕ → ℕ → ℕ → ℕ → Half → Bool
 isHalf row x y w h = isOf row x y h && eqb (side row h) w
 
--- such a half with a side of another net than z
+-- such a half with a side other than the inverse of z
 unfoldable pub isMate : List ℕ → ℕ → ℕ → ℕ → Half → Bool
-isMate row x y z h = isOf row x y h && not (eqb (net (side row h)) (net z))
+isMate row x y z h = isOf row x y h && not (eqb (side row h) (negate z))
 
--- the halves that make an ITE with a half: the selects are inverses, the output is the same, and the sides are of different nets
+-- the halves that make an ITE with a half: the selects are inverses, the output is the same, and the sides are not inverses
 unfoldable pub mates : List ℕ → Half → List Half
 mates row h = keep (isMate row (negate (getD row (h .place) 0)) (output row h) (side row h)) (allHalves row)
 

@@ -49,10 +49,10 @@ isThen cs l c t =
     not (eqb (net c) (net l)) && (not (eqb (net t) (net l)) && (not (eqb (net t) (net c)) &&
     (present cs (negate c ∷ negate l ∷ t ∷ []) && present cs (negate c ∷ l ∷ negate t ∷ []))))
 
--- e is of another net still, and the two clauses of the side e are present
+-- e is of another net than l and c, and not the inverse of t, and the two clauses of the side e are present
 unfoldable pub isElse : List (List ℕ) → ℕ → ℕ → ℕ → ℕ → Bool
 isElse cs l c t e =
-    not (eqb (net e) (net l)) && (not (eqb (net e) (net c)) && (not (eqb (net e) (net t)) &&
+    not (eqb (net e) (net l)) && (not (eqb (net e) (net c)) && (not (eqb e (negate t)) &&
     (present cs (c ∷ negate l ∷ e ∷ []) && present cs (c ∷ l ∷ negate e ∷ []))))
 
 -- the ITEs, each in every way to write it

@@ -177,8 +177,8 @@ fn one_half(codes: &[u32], index: &[u32], x: u32, y: u32, z: u32) -> u32
     1
 }
 
-// How many halves with literal x have the output whose inverse is y, and a side of another net than z: all but those with side z
-// or its inverse. Where there is one half only, its side is known.
+// How many halves with literal x have the output whose inverse is y, and a side other than the inverse of z: all but the one with
+// that side. Where there is one half only, its side is known.
 fn count_mates(
     codes: &[u32],
     index: &[u32],
@@ -201,13 +201,14 @@ fn count_mates(
     if n == 0 {
         return 0;
     }
+    let not_z = inverse(z);
     if n == 1 {
-        if sides[i] / 2 == z / 2 {
+        if sides[i] == not_z {
             return 0;
         }
         return 1;
     }
-    n - one_half(codes, index, x, y, z) - one_half(codes, index, x, y, inverse(z))
+    n - one_half(codes, index, x, y, not_z)
 }
 
 // What the mark of a place gets, and how many ITEs with plain select and output have their side t there.

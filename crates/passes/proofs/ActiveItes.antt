@@ -93,7 +93,7 @@ module _ {cs : List (List ℕ)} {row marks part partMarks older old new : List �
             record { place = s .place; at = select-at s; other = h .place; other-at = h .at; same = lead ∙ sym (h .lead); variable = λ z. some (sym lead ∙ z) }
 
     ite-in-part : {l c u e : ℕ} → net (leadOf old c) ≡ w → IteAt row marks l c u e → IteAt part partMarks l c u e
-    ite-in-part {c = c} q i = record { then-side = side-in-part q (i .then-side); else-side = side-in-part (inverse-lead old c ∙ q) (i .else-side); apart = i .apart }
+    ite-in-part {c = c} q i = record { then-side = side-in-part q (i .then-side); else-side = side-in-part (inverse-lead old c ∙ q) (i .else-side); not-inverses = i .not-inverses }
 
   -- Rule 7, by equal sides
 

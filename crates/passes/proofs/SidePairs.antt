@@ -3,46 +3,28 @@
 use mathlib.Core.Path.{_≡_, sym, _∙_, ap, subst}
 use mathlib.Core.Logic.{_≢_}
 use mathlib.Core.Bool.{true, false, not}
-use mathlib.Core.List.{List, [], _∷_}
+use mathlib.Core.List.{List}
 use Prim.Native.Nat.{ℕ, _<_}
-use native.Mathlib.Omega.{arith}
 use borrow.Author.Tests.{eq-eqb, ne-eqb, eqb-true}
 use lib.Dec.{eqb}
-use Rattle.clauses.specs.Code.{negate, net}
-use Rattle.clauses.specs.Clause.{Present}
-use Rattle.clauses.proofs.Codes.{negate-negate}
+use Rattle.clauses.specs.Code.{negate}
 use Rattle.clauses.proofs.Lists.{and-both, both-and, not-eqb, eqb-not}
 use Rattle.gates.specs.Gate.{IteGate}
 use Rattle.gates.specs.Found.{Found}
-use Rattle.gates.proofs.ItesListed.{Four, four-apart, apart-four, ite-crossed}
+use Rattle.gates.proofs.ItesListed.{ite-crossed}
+use Rattle.gates.proofs.Sides.{sides-ite, ite-sides}
 use Rattle.rules.specs.Answer.{leadOf}
 use Rattle.passes.specs.Sides.{sideCount, selectAt, outputAt, thenAt, Side, Sides, ListsMarked, Pair, isPair, Alike, isAlike}
 use Rattle.passes.specs.RowJoined.{SideAt, IteAt}
 
--- Two sides of one output, with inverse selects and t and e of different nets, are an ITE.
-sides-gate : {cs : List (List ℕ)} {l c d t e : ℕ} → Side cs l c t → Side cs l d e → d ≡ negate c → net e ≢ net t → IteGate cs l c t e
-sides-gate {cs} {l} {c} {d} {t} {e} (a, g) (b, h) q n =
-    record {
-      apart = four-apart (record { cl = f .cl; tl = f .tl; tc = f .tc; el = k .tl; ec = λ z. k .tc (omega arith); et = n });
-      then-up = g .then-up;
-      then-down = g .then-down;
-      else-up = subst (λ (x : ℕ). Present cs (x ∷ negate l ∷ e ∷ [])) inverse (h .then-up);
-      else-down = subst (λ (x : ℕ). Present cs (x ∷ l ∷ negate e ∷ [])) inverse (h .then-down);
-    }
-  where
-    f : Four l c t a
-    f = apart-four (g .apart)
-
-    k : Four l d e b
-    k = apart-four (h .apart)
-
-    inverse : negate d ≡ c
-    inverse = ap negate q ∙ negate-negate c
+-- Two sides of one output, with inverse selects and t and e that are not inverses, are an ITE.
+sides-gate : {cs : List (List ℕ)} {l c d t e : ℕ} → Side cs l c t → Side cs l d e → d ≡ negate c → e ≢ negate t → IteGate cs l c t e
+sides-gate (a, g) (b, h) q n = sides-ite (ite-sides g .0) (rw (← q) (ite-sides h .0)) n
 
 module _ {cs : List (List ℕ)} {sides : List ℕ} (s : Sides cs sides) where
   pub pair-gate : {k j : ℕ} → Pair sides k j → IteGate cs (outputAt sides k) (selectAt sides k) (thenAt sides k) (thenAt sides j)
   pair-gate {k} {j} p =
-      sides-gate (s .are k (p .first)) (subst (λ (l : ℕ). Side cs l (selectAt sides j) (thenAt sides j)) (p .outputs) (s .are j (p .second))) (p .selects) (p .apart)
+      sides-gate (s .are k (p .first)) (subst (λ (l : ℕ). Side cs l (selectAt sides j) (thenAt sides j)) (p .outputs) (s .are j (p .second))) (p .selects) (p .not-inverses)
 
 -- the pair that is an ITE marked in a row of codes
 pub record Paired (sides : List ℕ) (l c t e : ℕ) : Type 0 where
@@ -67,7 +49,7 @@ ite-pair all {l} {c} {t} {e} g =
             second = b .inside;
             selects = b .select ∙ ap negate (sym (a .select));
             outputs = b .output ∙ sym (a .output);
-            apart = λ z. g .apart (ap net (sym (b .side)) ∙ z ∙ ap net (a .side));
+            not-inverses = λ z. g .not-inverses (sym (b .side) ∙ z ∙ ap negate (a .side));
           };
       output = a .output;
       select = a .select;
@@ -78,7 +60,7 @@ ite-pair all {l} {c} {t} {e} g =
 -- an ITE of the list is marked where the row has its clauses
 pub gate-marked : {cs : List (List ℕ)} {row marks : List ℕ} → Found cs row marks → {l c t e : ℕ} → IteGate cs l c t e → IteAt row marks l c t e
 gate-marked {cs} {row} {marks} f {l} {c} {t} {e} g =
-    record { then-side = side g; else-side = side (ite-crossed g); apart = apart-four (g .apart) .et }
+    record { then-side = side g; else-side = side (ite-crossed g); not-inverses = g .not-inverses }
   where
     side : {d u v : ℕ} → IteGate cs l d u v → SideAt row marks l d u
     side {d} {u} {v} h = let (b, p, i, x, m) = f .side-found l d u v h in record { start = b; place = p; at = i; select = x; marked = m }
@@ -96,14 +78,14 @@ module _ (sides : List ℕ) (k j : ℕ) where
         second = s;
         selects = eqb-true (selectAt sides j) (negate (selectAt sides k)) (a .0);
         outputs = eqb-true (outputAt sides j) (outputAt sides k) (b .0);
-        apart = not-eqb (net (thenAt sides j)) (net (thenAt sides k)) (b .1);
+        not-inverses = not-eqb (thenAt sides j) (negate (thenAt sides k)) (b .1);
       }
 
   pub pair-is : Pair sides k j → isPair sides k j ≡ true
   unfolding isPair
   pair-is p =
       both-and (eq-eqb (selectAt sides j) (negate (selectAt sides k)) (p .selects))
-      (both-and (eq-eqb (outputAt sides j) (outputAt sides k) (p .outputs)) (eqb-not (net (thenAt sides j)) (net (thenAt sides k)) (p .apart)))
+      (both-and (eq-eqb (outputAt sides j) (outputAt sides k) (p .outputs)) (eqb-not (thenAt sides j) (negate (thenAt sides k)) (p .not-inverses)))
 
   -- the test, in the order of the program
   pub no-select : selectAt sides j ≢ negate (selectAt sides k) → false ≡ isPair sides k j
@@ -115,9 +97,9 @@ module _ (sides : List ℕ) (k j : ℕ) where
     unfolding isPair
     no-output n = rw (eq-eqb (selectAt sides j) (negate (selectAt sides k)) e, ne-eqb (outputAt sides j) (outputAt sides k) n)
 
-    pub by-nets : outputAt sides j ≡ outputAt sides k → not (eqb (net (thenAt sides j)) (net (thenAt sides k))) ≡ isPair sides k j
+    pub by-thens : outputAt sides j ≡ outputAt sides k → not (eqb (thenAt sides j) (negate (thenAt sides k))) ≡ isPair sides k j
     unfolding isPair
-    by-nets q = rw (eq-eqb (selectAt sides j) (negate (selectAt sides k)) e, eq-eqb (outputAt sides j) (outputAt sides k) q)
+    by-thens q = rw (eq-eqb (selectAt sides j) (negate (selectAt sides k)) e, eq-eqb (outputAt sides j) (outputAt sides k) q)
 
 module _ (sides old : List ℕ) (i k : ℕ) where
   pub is-alike : isAlike sides old i k ≡ true → Alike sides old i k

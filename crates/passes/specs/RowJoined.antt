@@ -6,7 +6,7 @@ use mathlib.Core.Bool.{true}
 use mathlib.Core.List.{List}
 use Prim.Native.Nat.{ℕ, _*_, _<_}
 use lib.ListN.{getD}
-use Rattle.clauses.specs.Code.{negate, net}
+use Rattle.clauses.specs.Code.{negate}
 use Rattle.gates.specs.Found.{Starts, LiteralAt, around, isAnd, isSelectNext, isSelectAfter}
 use Rattle.passes.specs.Making.{Kernel, JoinedBy}
 use Rattle.passes.specs.Passing.{ClauseJoined, AndJoined}
@@ -27,7 +27,7 @@ pub record SideAt (row marks : List ℕ) (l c t : ℕ) : Type 0 where
 pub record IteAt (row marks : List ℕ) (l c t e : ℕ) : Type 0 where
   pub then-side : SideAt row marks l c t
   pub else-side : SideAt row marks l (negate c) e
-  pub apart : net e ≢ net t
+  pub not-inverses : e ≢ negate t
 
 -- rules 5 and 6: a sum of at most one net is joined to it, and two sums of the same nets are joined
 pub record XorsJoined (row marks old new : List ℕ) (t : Tally) : Type 0 where

@@ -83,17 +83,17 @@ pub record More (row : List ℕ) (b p : ℕ) (sides : List ℕ) (n : ℕ) (sides
 
 -- Pairs of sides
 
--- the sides k and j make an ITE: the selects are inverses, the output is the same, and the nets of t and e differ
+-- the sides k and j make an ITE: the selects are inverses, the output is the same, and t and e are not inverses
 pub record Pair (sides : List ℕ) (k j : ℕ) : Type 0 where
   pub first : k < sideCount sides
   pub second : j < sideCount sides
   pub selects : selectAt sides j ≡ negate (selectAt sides k)
   pub outputs : outputAt sides j ≡ outputAt sides k
-  pub apart : net (thenAt sides j) ≢ net (thenAt sides k)
+  pub not-inverses : thenAt sides j ≢ negate (thenAt sides k)
 
 unfoldable pub isPair : List ℕ → ℕ → ℕ → Bool
 isPair sides k j =
-    eqb (selectAt sides j) (negate (selectAt sides k)) && (eqb (outputAt sides j) (outputAt sides k) && not (eqb (net (thenAt sides j)) (net (thenAt sides k))))
+    eqb (selectAt sides j) (negate (selectAt sides k)) && (eqb (outputAt sides j) (outputAt sides k) && not (eqb (thenAt sides j) (negate (thenAt sides k))))
 
 -- the selects of two sides have one old lead, and so have their literals t
 pub record Alike (sides old : List ℕ) (i k : ℕ) : Type 0 where

@@ -68,7 +68,7 @@ fn is_pair(sides: &[u32], k: usize, j: usize) -> bool
     if output_of(sides, j) != output_of(sides, k) {
         return false;
     }
-    then_of(sides, j) / 2 != then_of(sides, k) / 2
+    then_of(sides, j) != flipped(true, then_of(sides, k))
 }
 
 // Whether the selects of sides i and k have one old lead, and their literals t too.

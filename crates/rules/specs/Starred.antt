@@ -58,6 +58,6 @@ starred =
     Contradiction 2 5 2 1 0 0 (noLead ∷ noLead ∷ noLead ∷ noLead ∷ noLead ∷ []) ∷
     -- 4 = 1 ? 2 : 3 and 5 = 1 ? -2 : -3, eight clauses: settled,1,5,0,0,2,4, lead of 5 is -4
     gives (ite (p 4) (p 1) (p 2) (p 3) ++ ite (p 5) (p 1) (m 2) (m 3)) Settled 1 5 0 0 2 4 (p 1 ∷ p 2 ∷ p 3 ∷ p 4 ∷ m 4 ∷ []) ∷
-    -- (-1 -3 2)(-1 3 -2)(1 -3 2)(1 3 -2): settled,0,3,0,0,0,3
+    -- (-1 -3 2)(-1 3 -2)(1 -3 2)(1 3 -2): settled,1,3,0,0,2,2, lead of 3 is 2
     gives ((m 1 ∷ m 3 ∷ p 2 ∷ []) ∷ (m 1 ∷ p 3 ∷ m 2 ∷ []) ∷ (p 1 ∷ m 3 ∷ p 2 ∷ []) ∷ (p 1 ∷ p 3 ∷ m 2 ∷ []) ∷ [])
-    Settled 0 3 0 0 0 3 (p 1 ∷ p 2 ∷ p 3 ∷ []) ∷ []
+    Settled 1 3 0 0 2 2 (p 1 ∷ p 2 ∷ p 2 ∷ []) ∷ []

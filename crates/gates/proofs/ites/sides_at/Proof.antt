@@ -9,6 +9,7 @@ use borrow.Author.Needs.{needs}
 use lib.ListN.{length, getD}
 use denote.Ref.{now}
 use Rattle.clauses.specs.Code.{net}
+use Rattle.gates.proofs.ItesListed.{apart-nets}
 use Rattle.gates.proofs.Sides.{half-side}
 use Rattle.gates.proofs.Halves.{paired-in-three, place-inside, next-in-three, Others, others, mark-by, pairs-by}
 use Rattle.gates.proofs.ites.sides_at.Statement.{statement}
@@ -25,8 +26,9 @@ nets : (c : tie.After-inverse) → (net (c .inverse .result) ≢ net (getD (now 
     × (net (getD (now (c .before .before .before .before .before .before .before .before .before .before .args .codes)) (c .before .before .before .before .before .next-place .result) 0) ≢ net (getD (now (c .before .before .before .before .before .before .before .before .before .before .args .codes)) (c .before .before .before .before .next-place2 .result) 0))
 nets c =
     let s = half-side (c .before .before .before .before .before .before .before .before .before .before .pre .1 .0) _ (c .before .before .before .before .before .before .before .before .before .before .pre .1 .1 .1 .0) false in
+    let f = apart-nets (s .apart) in
     rw (c .inverse .ensures, found (c .before .before .before .before) .next-is, found (c .before .before .before .before) .after-is)
-    (λ e. s .select-output (omega arith), λ e. s .side-select (omega arith), λ e. s .side-output (omega arith))
+    (λ e. f .cl (omega arith), λ e. f .tc (omega arith), λ e. f .tl (omega arith))
 
 next-place-requires : tie.Need-next-place-requires
 next-place-requires c κs = paired-in-three _ _ (c .before .before .before .before .pre .1 .1 .1 .0)

@@ -2,7 +2,7 @@
 -- Assumes nothing.
 use borrow.Author.Needs.{needs}
 use denote.Ref.{now}
-use Rattle.passes.proofs.SidePairs.{no-select, no-output, by-nets}
+use Rattle.passes.proofs.SidePairs.{no-select, no-output, by-thens}
 use Rattle.passes.proofs.ites.is_pair.Statement.{statement}
 use Rattle.passes.proofs.ites.is_pair.Tie as tie
 
@@ -33,8 +33,11 @@ then-of-requires c κs = search needs
 then-of-requires-2 : tie.Need-then-of-requires-2
 then-of-requires-2 c κs = search needs
 
+flipped-requires-2 : tie.Need-flipped-requires-2
+flipped-requires-2 c κs = search needs
+
 returns-3 : tie.Need-returns-3
-returns-3 c = rw (c .before .then-of .ensures, c .then-of2 .ensures) (by-nets (now (c .before .before .before .before .before .before .before .before .before .before .args .sides)) (c .before .before .before .before .before .before .before .before .before .before .args .k) (c .before .before .before .before .before .before .before .before .before .before .args .j) (rw (← c .before .before .before .before .before .before .before .before .select-of .ensures, ← c .before .before .before .before .before .before .before .select-of2 .ensures, ← c .before .before .before .before .before .before .flipped .ensures) (c .before .before .before .before .before .if1 .left)) (rw (← c .before .before .before .before .output-of .ensures, ← c .before .before .before .output-of2 .ensures) (c .before .before .if2 .left)))
+returns-3 c = rw (c .flipped2 .ensures, c .before .before .then-of .ensures, c .before .then-of2 .ensures) (by-thens (now (c .before .before .before .before .before .before .before .before .before .before .before .args .sides)) (c .before .before .before .before .before .before .before .before .before .before .before .args .k) (c .before .before .before .before .before .before .before .before .before .before .before .args .j) (rw (← c .before .before .before .before .before .before .before .before .before .select-of .ensures, ← c .before .before .before .before .before .before .before .before .select-of2 .ensures, ← c .before .before .before .before .before .before .before .flipped .ensures) (c .before .before .before .before .before .before .if1 .left)) (rw (← c .before .before .before .before .before .output-of .ensures, ← c .before .before .before .before .output-of2 .ensures) (c .before .before .before .if2 .left)))
 
 pub is-pair-spec : {M : Type 1} → statement M
 is-pair-spec =
@@ -49,4 +52,5 @@ is-pair-spec =
     returns-2
     then-of-requires
     then-of-requires-2
+    flipped-requires-2
     returns-3)
