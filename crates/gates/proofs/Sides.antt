@@ -64,6 +64,16 @@ pub record Side (cs : List (List ℕ)) (l c t : ℕ) : Type 0 where
 present-equal : {cs : List (List ℕ)} {c d : List ℕ} → d ≡ c → Present cs c → Present cs d
 present-equal {cs} e h = subst⁻¹ (Present cs) e h
 
+-- where c is true, l and t are equal: that reads the same with the two turned round
+pub side-turned : {cs : List (List ℕ)} {l c t : ℕ} → Side cs l c t → Side cs t c l
+side-turned s =
+    let f = apart-nets (s .apart) in
+    record {
+      apart = nets-apart (record { cl = λ z. f .tc (sym z); tl = λ z. f .tl (sym z); tc = λ z. f .cl (sym z) });
+      up = present-same (swap _ _ _) (s .down);
+      down = present-same (swap _ _ _) (s .up);
+    }
+
 pub sides-ite : {cs : List (List ℕ)} {l c t e : ℕ} → Side cs l c t → Side cs l (negate c) e → e ≢ negate t → IteGate cs l c t e
 sides-ite {c = c} s r n =
     record {

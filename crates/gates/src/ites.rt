@@ -13,7 +13,7 @@ ghost use Rattle.gates.specs.Found.{around};
 ghost use Rattle.gates.specs.Normal.{Normal, maxCode};
 ghost use Rattle.gates.specs.Index.{Indexed};
 ghost use Rattle.gates.specs.Mark.{isFirst, Kinds, startOf};
-ghost use Rattle.gates.specs.Ites.{inThree, isPaired, isPairedAt, halvesAt, allHalves, isHalf, isMate, sizeOf, sideMark, Sided, SidesAt, pairsOf, PlacesChained, Room, Sized};
+ghost use Rattle.gates.specs.Ites.{inThree, isPaired, isPairedAt, halvesAt, allHalves, isHalf, sizeOf, sideMark, Sided, SidesAt, pairsOf, PlacesChained, Room, Sized};
 use crate::chain::link;
 use crate::counts::Counts;
 use crate::literal::inverse;
@@ -177,9 +177,9 @@ fn one_half(codes: &[u32], index: &[u32], x: u32, y: u32, z: u32) -> u32
     1
 }
 
-// How many halves with literal x have the output whose inverse is y, and a side other than the inverse of z: all but the one with
-// that side. Where there is one half only, its side is known.
-fn count_mates(
+// 1 if there is a half with literal x, the output whose inverse is y, and the inverse of z for its side, else 0. Where one half has that
+// output, or none, that is known without a search.
+fn one_inverse(
     codes: &[u32],
     index: &[u32],
     sizes: &[u32],
@@ -193,8 +193,7 @@ fn count_mates(
     requires { ⌜ (y < length (now sizes)) × (y < length (now sides)) ⌝ }
     requires { ⌜ Sized (now codes) x (now sizes) (now sides) ⌝ }
     requires { ⌜ (net x ≢ net y) × (net x ≢ net z) × (net y ≢ net z) ⌝ }
-    ensures { λ r. ⌜ r ≡ length (keep (isMate (now (codes .entry)) x y z) (allHalves (now (codes .entry)))) ⌝ }
-    ensures { λ r. ⌜ r ≤ 32768 ⌝ }
+    ensures { λ r. ⌜ r ≡ length (keep (isHalf (now (codes .entry)) x y (negate z)) (allHalves (now (codes .entry)))) ⌝ }
 {
     let i = y as usize;
     let n = sizes[i];
@@ -204,11 +203,11 @@ fn count_mates(
     let not_z = inverse(z);
     if n == 1 {
         if sides[i] == not_z {
-            return 0;
+            return 1;
         }
-        return 1;
+        return 0;
     }
-    n - one_half(codes, index, x, y, not_z)
+    one_half(codes, index, x, y, not_z)
 }
 
 // What the mark of a place gets, and how many ITEs with plain select and output have their side t there.
@@ -247,7 +246,8 @@ fn if_plain(x: u32, y: u32, n: u32) -> u32
     0
 }
 
-// The sides at a paired place; the halves with the inverse of its literal are counted.
+// The sides at a paired place; the halves with the inverse of its literal are counted. A half's mates are those with its output, but for
+// the one whose side is the inverse of its own; for both halves of the place that one is of the same clauses.
 fn sides_at(codes: &[u32], index: &[u32], sizes: &[u32], sides: &[u32], p: usize) -> Sides
     requires { ⌜ Indexed (now codes) (now index) ⌝ }
     requires { ⌜ Normal (now codes) ⌝ }
@@ -264,8 +264,9 @@ fn sides_at(codes: &[u32], index: &[u32], sizes: &[u32], sides: &[u32], p: usize
     let y = codes[next];
     let z = codes[after];
     let select = inverse(x);
-    let n = count_mates(codes, index, sizes, sides, select, y, z);
-    let m = count_mates(codes, index, sizes, sides, select, z, y);
+    let inverses = one_inverse(codes, index, sizes, sides, select, y, z);
+    let n = sizes[y as usize] - inverses;
+    let m = sizes[z as usize] - inverses;
     Sides {
         mark: side_mark(n, m),
         plain: if_plain(x, y, n) + if_plain(x, z, m),

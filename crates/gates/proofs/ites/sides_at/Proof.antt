@@ -1,6 +1,6 @@
 -- `gates::ites::sides_at` meets its contract.
 -- Assumes nothing.
-use mathlib.Core.Path.{sym, _∙_}
+use mathlib.Core.Path.{_∙_}
 use mathlib.Core.Logic.{_≢_}
 use mathlib.Core.Bool.{false}
 use Prim.Native.Nat.{ℕ, _<_}
@@ -8,10 +8,11 @@ use native.Mathlib.Omega.{arith}
 use borrow.Author.Needs.{needs}
 use lib.ListN.{length, getD}
 use denote.Ref.{now}
-use Rattle.clauses.specs.Code.{net}
+use Rattle.clauses.specs.Code.{negate, net}
 use Rattle.gates.proofs.ItesListed.{apart-nets}
 use Rattle.gates.proofs.Sides.{half-side}
 use Rattle.gates.proofs.Halves.{paired-in-three, place-inside, next-in-three, Others, others, mark-by, pairs-by}
+use Rattle.gates.proofs.MateCounts.{PlaceMates, place-mates}
 use Rattle.gates.proofs.ites.sides_at.Statement.{statement}
 use Rattle.gates.proofs.ites.sides_at.Tie as tie
 
@@ -29,6 +30,9 @@ nets c =
     let f = apart-nets (s .apart) in
     rw (c .inverse .ensures, found (c .before .before .before .before) .next-is, found (c .before .before .before .before) .after-is)
     (λ e. f .cl (omega arith), λ e. f .tc (omega arith), λ e. f .tl (omega arith))
+
+mates : (c : tie.After-one-inverse) → PlaceMates (now (c .before .before .before .before .before .before .before .before .before .before .before .args .codes)) (now (c .before .before .before .before .before .before .before .before .before .before .before .args .sizes)) (negate (getD (now (c .before .before .before .before .before .before .before .before .before .before .before .args .codes)) (c .before .before .before .before .before .before .before .before .before .before .before .args .p) 0)) (getD (now (c .before .before .before .before .before .before .before .before .before .before .before .args .codes)) (c .before .before .before .before .before .before .next-place .result) 0) (getD (now (c .before .before .before .before .before .before .before .before .before .before .before .args .codes)) (c .before .before .before .before .before .next-place2 .result) 0) (c .one-inverse .result)
+mates c = place-mates (c .before .before .before .before .before .before .before .before .before .before .before .pre .1 .0) (c .before .before .before .before .before .before .before .before .before .before .before .pre .1 .1 .1 .1) (rw (c .before .inverse .ensures) at (c .one-inverse .ensures))
 
 next-place-requires : tie.Need-next-place-requires
 next-place-requires c κs = paired-in-three _ _ (c .before .before .before .before .pre .1 .1 .1 .0)
@@ -57,11 +61,32 @@ shared-slice-read-z c = found (c .before .before .before) .after-in
 inverse-requires : tie.Need-inverse-requires
 inverse-requires c κs = search needs
 
-count-mates-requires : tie.Need-count-mates-requires
-count-mates-requires c κs = (c .before .before .before .before .before .before .before .before .before .before .pre .0, (c .before .before .before .before .before .before .before .before .before .before .pre .1 .0, (room c (c .before .before .before .before .before .next-place .result), (rw (c .inverse .ensures) (c .before .before .before .before .before .before .before .before .before .before .pre .1 .1 .1 .1), nets c))))
+one-inverse-requires : tie.Need-one-inverse-requires
+one-inverse-requires c κs = (c .before .before .before .before .before .before .before .before .before .before .pre .0, (c .before .before .before .before .before .before .before .before .before .before .pre .1 .0, (room c (c .before .before .before .before .before .next-place .result), (rw (c .inverse .ensures) (c .before .before .before .before .before .before .before .before .before .before .pre .1 .1 .1 .1), nets c))))
 
-count-mates-requires-2 : tie.Need-count-mates-requires-2
-count-mates-requires-2 c κs = (c .before .before .before .before .before .before .before .before .before .before .before .pre .0, (c .before .before .before .before .before .before .before .before .before .before .before .pre .1 .0, (room (c .before) (c .before .before .before .before .before .next-place2 .result), (rw (c .before .inverse .ensures) (c .before .before .before .before .before .before .before .before .before .before .before .pre .1 .1 .1 .1), (nets (c .before) .1, nets (c .before) .0, λ e. nets (c .before) .2 (sym e))))))
+cast-n : tie.Need-cast-n
+cast-n c = omega (arith, c .before .before .before .before .before .before .before .before .before .before .before .pre .1 .0 .small (c .before .before .before .before .before .before .next-place .result))
+
+mul-n : tie.Need-mul-n
+mul-n c = omega (arith, room (c .before) (c .before .before .before .before .before .before .next-place .result) .0, c .before .before .before .before .before .before .before .before .before .before .before .good)
+
+shared-slice-read-n : tie.Need-shared-slice-read-n
+shared-slice-read-n c = room (c .before .before) (c .before .before .before .before .before .before .before .next-place .result) .0
+
+sub-n : tie.Need-sub-n
+sub-n c = mates (c .before) .next-least
+
+cast-m : tie.Need-cast-m
+cast-m c = omega (arith, c .before .before .before .before .before .before .before .before .before .before .before .before .pre .1 .0 .small (c .before .before .before .before .before .before .next-place2 .result))
+
+mul-m : tie.Need-mul-m
+mul-m c = omega (arith, room (c .before .before) (c .before .before .before .before .before .before .next-place2 .result) .0, c .before .before .before .before .before .before .before .before .before .before .before .before .good)
+
+shared-slice-read-m : tie.Need-shared-slice-read-m
+shared-slice-read-m c = room (c .before .before .before) (c .before .before .before .before .before .before .before .next-place2 .result) .0
+
+sub-m : tie.Need-sub-m
+sub-m c = mates (c .before .before) .after-least
 
 side-mark-requires : tie.Need-side-mark-requires
 side-mark-requires c κs = search needs
@@ -72,19 +97,18 @@ if-plain-requires c κs = search needs
 if-plain-requires-2 : tie.Need-if-plain-requires-2
 if-plain-requires-2 c κs = search needs
 
-add-t21 : tie.Need-add-t21
-add-t21 c = omega (arith, c .before .if-plain .ensures .1, c .if-plain2 .ensures .1, c .before .before .before .before .count-mates .ensures .1, c .before .before .before .count-mates2 .ensures .1)
+add-t25 : tie.Need-add-t25
+add-t25 c = omega (arith, c .before .if-plain .ensures .1, c .if-plain2 .ensures .1, mates (c .before .before .before .before .before) .next-most, mates (c .before .before .before .before .before) .after-most)
 
 returns : tie.Need-returns
 returns c =
-    let f = found (c .before .before .before .before .before .before .before .before .before) in
-    let t = c .before .before .before .before .before .before .before .before .before .before .before .before .before .before .before .pre .1 .1 .1 .0 in
-    let e = rw (c .before .before .before .before .before .inverse .ensures) at (c .before .before .before .before .count-mates .ensures .0) in
-    let g = rw (c .before .before .before .before .before .inverse .ensures) at (c .before .before .before .count-mates2 .ensures .0) in (
-      c .before .before .side-mark .ensures .0 ∙ mark-by _ _ _ _ t f _ _ e g,
+    let f = found (c .before .before .before .before .before .before .before .before .before .before) in
+    let t = c .before .before .before .before .before .before .before .before .before .before .before .before .before .before .before .before .pre .1 .1 .1 .0 in
+    let m = mates (c .before .before .before .before .before) in (
+      c .before .before .side-mark .ensures .0 ∙ mark-by _ _ _ _ t f _ _ (m .next) (m .after),
       (
-        rw (c .before .if-plain .ensures .0, c .if-plain2 .ensures .0) (pairs-by _ _ _ _ t f _ _ e g),
-        (c .before .before .side-mark .ensures .1, omega (arith, c .before .if-plain .ensures .1, c .if-plain2 .ensures .1, c .before .before .before .before .count-mates .ensures .1, c .before .before .before .count-mates2 .ensures .1)),
+        rw (c .before .if-plain .ensures .0, c .if-plain2 .ensures .0) (pairs-by _ _ _ _ t f _ _ (m .next) (m .after)),
+        (c .before .before .side-mark .ensures .1, omega (arith, c .before .if-plain .ensures .1, c .if-plain2 .ensures .1, m .next-most, m .after-most)),
       ),
     )
 
@@ -101,10 +125,17 @@ sides-at-spec =
     mul-z
     shared-slice-read-z
     inverse-requires
-    count-mates-requires
-    count-mates-requires-2
+    one-inverse-requires
+    cast-n
+    mul-n
+    shared-slice-read-n
+    sub-n
+    cast-m
+    mul-m
+    shared-slice-read-m
+    sub-m
     side-mark-requires
     if-plain-requires
     if-plain-requires-2
-    add-t21
+    add-t25
     returns)
