@@ -205,7 +205,7 @@ fn any_list(r: &mut Random) -> List {
     lists::random_list(kind, r)
 }
 
-/// The answers that document 01 states; how many were not given.
+/// The stated answers; how many were not given.
 fn check_stated(program: &str) -> usize {
     let mut faults = 0;
     for case in &stated::STATED {

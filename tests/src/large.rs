@@ -100,7 +100,7 @@ fn many_xors(r: &mut Random) -> List {
     List { nets, clauses }
 }
 
-/// Multiplexers on one select and one output: every pair of halves is a gate.
+/// Multiplexers on one output and one of two selects: any two halves across are a gate if their literals are not inverses.
 fn halves(r: &mut Random) -> List {
     let nets = r.between(20, 700);
     let p = pins(nets, nets, r);
@@ -136,8 +136,8 @@ fn and_chains(r: &mut Random) -> List {
     List { nets: (apart + last - 255 - first) as usize, clauses }
 }
 
-/// Over a million multiplexers: each of 1,022 nets on either side of one select and one output.
+/// Over two million multiplexers: in the XORs of two nets with each of 1,022 others, either is the select and the other the output.
 fn most_ites(_: &mut Random) -> List {
-    let clauses = (3..=1_024).flat_map(|d| ite_clauses(2, 1, d, d)).collect();
+    let clauses = (3..=1_024).flat_map(|d| xor_clauses(&[1, 2, d])).collect();
     List { nets: 1_024, clauses }
 }

@@ -243,8 +243,8 @@ fn doubled_pins(r: &mut Random) -> List {
     list
 }
 
-/// An XOR whose halves are each the side of some multiplexer, and a multiplexer with its select, whose data pins are joined to the
-/// halves' literals: these are inverses, so that there are no two multiplexers with equal pins.
+/// An XOR of l, c and t whose halves by c are each a side of some multiplexer, and a multiplexer on c whose data pins are joined to t
+/// and its inverse: the two halves make no multiplexer, so that nothing joins the outputs.
 fn inverse_pins(r: &mut Random) -> List {
     let mut list = List::over(8);
     let p = pins(list.nets, 8, r);

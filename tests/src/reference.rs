@@ -1,5 +1,5 @@
-//! A reference for the comparison sheet, written from document 01's text alone: naive, and in the document's order.
-//! It shares no code and no definition with the product.
+//! A reference for the comparison sheet, written from the texts of document 01 and, for ITEs, document 02, and nothing else:
+//! naive, and in document 01's order. It shares no code and no definition with the product.
 
 use std::collections::{BTreeMap, BTreeSet, HashMap, HashSet};
 

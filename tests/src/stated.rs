@@ -1,4 +1,4 @@
-//! The answers that document 01 states, which the reference and the program must both give.
+//! The answers that document 01 states, the last starred one as document 02 changes it, which the reference and the program must both give.
 
 /// A text, what is printed on the second line, and the leads if they are stated.
 type Stated = (&'static str, &'static str, &'static [&'static str]);

@@ -37,21 +37,25 @@ impl Ites {
     /// The halves of one select and output: those for t first, each side sorted.
     fn add(&mut self, run: &[u64]) {
         let (thens, elses) = run.split_at(run.partition_point(|half| half >> 12 & 1 == 0));
-        let literals = |side: &[u64]| side.iter().map(|half| (half & 4_095) as u32).collect();
+        if thens.is_empty() || elses.is_empty() || run.len() == 2 && literal_of(&run[0]) == literal_of(&run[1]) ^ 1 {
+            return;
+        }
+        let literals = |side: &[u64]| side.iter().map(literal_of).collect();
         let (select, output) = ((run[0] >> 36) as u32, (run[0] >> 24 & 4_095) as u32);
         let mut group = Group { select, output, thens: literals(thens), elses: literals(elses) };
-        let count = group.count();
-        if count > 0 {
-            self.count += count;
-            group.strike_out_single();
-            self.groups.push(group);
-        }
+        self.count += group.count();
+        group.strike_out_single();
+        self.groups.push(group);
     }
 }
 
 /// A half is select, output, side (0 for t) and literal, twelve bits each.
 fn half(condition: u32, output: u32, literal: u32) -> u64 {
     packed(&[condition & !1, output, condition & 1, literal])
+}
+
+fn literal_of(half: &u64) -> u32 {
+    (half & 4_095) as u32
 }
 
 /// Clauses (k, x, y) and (k, not x, not y): where k is false, x is the inverse of y.
@@ -131,7 +135,7 @@ impl Side {
     }
 }
 
-/// Two sides' literals, one of each, need not be inverses.
+/// A literal of each side can be chosen so that the two are not inverses.
 fn can_mate(a: u32, b: u32) -> bool {
     a != NONE && b != NONE && a != b ^ 1
 }

@@ -1,5 +1,5 @@
-//! The comparison sheet from document 01 alone, by hash tables, occurrence lists and going again only over what changed in
-//! the last round. It shares no code with the program or with the tests' reference.
+//! The comparison sheet from document 01 and, for ITEs, document 02, by hash tables, occurrence lists and going again only
+//! over what changed in the last round. It shares no code with the program or with the tests' reference.
 
 mod clauses;
 mod gates;

@@ -47,7 +47,7 @@ apart-signs p q r a =
     let f = apart-nets a in
     nets-apart (record { cl = λ z. f .cl (sym q ∙ z ∙ p); tl = λ z. f .tl (sym r ∙ z ∙ p); tc = λ z. f .tc (sym r ∙ z ∙ q) })
 
--- 'e is either the same literal as t or on a fourth net'
+-- where l, c and t are three nets, what `IteGate` asks of e is that 'e is either the same literal as t or on a fourth net'
 pub same-or-fourth : {l c t e : ℕ} → Apart (l ∷ c ∷ t ∷ []) → (Apart (l ∷ c ∷ e ∷ []) × (e ≢ negate t)) ↔ ((e ≡ t) ⊎ Apart (e ∷ l ∷ c ∷ t ∷ []))
 same-or-fourth {l} {c} {t} {e} a = (λ h. to (apart-nets (h .0)) (h .1) (ℕ-discrete (net e) (net t)), from)
   where

@@ -97,9 +97,9 @@ module _ (sides : List ℕ) (k j : ℕ) where
     unfolding isPair
     no-output n = rw (eq-eqb (selectAt sides j) (negate (selectAt sides k)) e, ne-eqb (outputAt sides j) (outputAt sides k) n)
 
-    pub by-thens : outputAt sides j ≡ outputAt sides k → not (eqb (thenAt sides j) (negate (thenAt sides k))) ≡ isPair sides k j
+    pub by-inverses : outputAt sides j ≡ outputAt sides k → not (eqb (thenAt sides j) (negate (thenAt sides k))) ≡ isPair sides k j
     unfolding isPair
-    by-thens q = rw (eq-eqb (selectAt sides j) (negate (selectAt sides k)) e, eq-eqb (outputAt sides j) (outputAt sides k) q)
+    by-inverses q = rw (eq-eqb (selectAt sides j) (negate (selectAt sides k)) e, eq-eqb (outputAt sides j) (outputAt sides k) q)
 
 module _ (sides old : List ℕ) (i k : ℕ) where
   pub is-alike : isAlike sides old i k ≡ true → Alike sides old i k

@@ -1,4 +1,4 @@
--- The starred lists of 'Lists to try', with their answers under round limit V + 1.
+-- The starred lists of 'Lists to try', with their answers under round limit V + 1; the last answer is document 02's.
 -- Assumes nothing.
 use mathlib.Core.List.{List, [], _∷_, _++_}
 use Prim.Native.Nat.{ℕ, _+_, _*_}

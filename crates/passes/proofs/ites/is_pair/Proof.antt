@@ -2,7 +2,7 @@
 -- Assumes nothing.
 use borrow.Author.Needs.{needs}
 use denote.Ref.{now}
-use Rattle.passes.proofs.SidePairs.{no-select, no-output, by-thens}
+use Rattle.passes.proofs.SidePairs.{no-select, no-output, by-inverses}
 use Rattle.passes.proofs.ites.is_pair.Statement.{statement}
 use Rattle.passes.proofs.ites.is_pair.Tie as tie
 
@@ -37,7 +37,7 @@ flipped-requires-2 : tie.Need-flipped-requires-2
 flipped-requires-2 c κs = search needs
 
 returns-3 : tie.Need-returns-3
-returns-3 c = rw (c .flipped2 .ensures, c .before .before .then-of .ensures, c .before .then-of2 .ensures) (by-thens (now (c .before .before .before .before .before .before .before .before .before .before .before .args .sides)) (c .before .before .before .before .before .before .before .before .before .before .before .args .k) (c .before .before .before .before .before .before .before .before .before .before .before .args .j) (rw (← c .before .before .before .before .before .before .before .before .before .select-of .ensures, ← c .before .before .before .before .before .before .before .before .select-of2 .ensures, ← c .before .before .before .before .before .before .before .flipped .ensures) (c .before .before .before .before .before .before .if1 .left)) (rw (← c .before .before .before .before .before .output-of .ensures, ← c .before .before .before .before .output-of2 .ensures) (c .before .before .before .if2 .left)))
+returns-3 c = rw (c .flipped2 .ensures, c .before .before .then-of .ensures, c .before .then-of2 .ensures) (by-inverses (now (c .before .before .before .before .before .before .before .before .before .before .before .args .sides)) (c .before .before .before .before .before .before .before .before .before .before .before .args .k) (c .before .before .before .before .before .before .before .before .before .before .before .args .j) (rw (← c .before .before .before .before .before .before .before .before .before .select-of .ensures, ← c .before .before .before .before .before .before .before .before .select-of2 .ensures, ← c .before .before .before .before .before .before .before .flipped .ensures) (c .before .before .before .before .before .before .if1 .left)) (rw (← c .before .before .before .before .before .output-of .ensures, ← c .before .before .before .before .output-of2 .ensures) (c .before .before .before .if2 .left)))
 
 pub is-pair-spec : {M : Type 1} → statement M
 is-pair-spec =
