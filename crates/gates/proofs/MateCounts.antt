@@ -56,7 +56,7 @@ module _ (row : List ℕ) (x y : ℕ) where
   size-split w = keep-split (isOf row x y) (λ h. eqb (side row h) w) (allHalves row)
 
   -- all but the one with the inverse side are mates
-  pub size-mates : (z : ℕ) → sizeOf row x y (2 * length row) ≡ length (keep (isMate row x y z) (allHalves row)) + length (keep (isHalf row x y (negate z)) (allHalves row))
+  size-mates : (z : ℕ) → sizeOf row x y (2 * length row) ≡ length (keep (isMate row x y z) (allHalves row)) + length (keep (isHalf row x y (negate z)) (allHalves row))
   unfolding isMate
   size-mates z = size-split (negate z)
 
@@ -140,7 +140,7 @@ module _ {row : List ℕ} (normal : Normal row) (x : ℕ) where
       let k = keep-has (isHalf row x y (negate z)) (allHalves row) (f .0) (f .1) in
       side-counts normal x z (negate y) (side-turned (the-side normal x y (negate z) (f .0) (k .1)))
 
-  pub halves-turned : (y z : ℕ) → length (keep (isHalf row x y (negate z)) (allHalves row)) ≡ length (keep (isHalf row x z (negate y)) (allHalves row))
+  halves-turned : (y z : ℕ) → length (keep (isHalf row x y (negate z)) (allHalves row)) ≡ length (keep (isHalf row x z (negate y)) (allHalves row))
   halves-turned y z = go (length (keep (isHalf row x y (negate z)) (allHalves row))) (length (keep (isHalf row x z (negate y)) (allHalves row))) (half-turned y z) (half-turned z y) (halves-once normal x z (negate y))
     where
       go : (a b : ℕ) → (0 < a → 1 ≡ b) → (0 < b → 1 ≡ a) → b ≤ 1 → a ≡ b

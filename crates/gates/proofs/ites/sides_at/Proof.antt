@@ -31,8 +31,8 @@ nets c =
     rw (c .inverse .ensures, found (c .before .before .before .before) .next-is, found (c .before .before .before .before) .after-is)
     (λ e. f .cl (omega arith), λ e. f .tc (omega arith), λ e. f .tl (omega arith))
 
-mates : (c : tie.After-one-inverse) → PlaceMates (now (c .before .before .before .before .before .before .before .before .before .before .before .args .codes)) (now (c .before .before .before .before .before .before .before .before .before .before .before .args .sizes)) (negate (getD (now (c .before .before .before .before .before .before .before .before .before .before .before .args .codes)) (c .before .before .before .before .before .before .before .before .before .before .before .args .p) 0)) (getD (now (c .before .before .before .before .before .before .before .before .before .before .before .args .codes)) (c .before .before .before .before .before .before .next-place .result) 0) (getD (now (c .before .before .before .before .before .before .before .before .before .before .before .args .codes)) (c .before .before .before .before .before .next-place2 .result) 0) (c .one-inverse .result)
-mates c = place-mates (c .before .before .before .before .before .before .before .before .before .before .before .pre .1 .0) (c .before .before .before .before .before .before .before .before .before .before .before .pre .1 .1 .1 .1) (rw (c .before .inverse .ensures) at (c .one-inverse .ensures))
+mates-counted : (c : tie.After-one-inverse) → PlaceMates (now (c .before .before .before .before .before .before .before .before .before .before .before .args .codes)) (now (c .before .before .before .before .before .before .before .before .before .before .before .args .sizes)) (negate (getD (now (c .before .before .before .before .before .before .before .before .before .before .before .args .codes)) (c .before .before .before .before .before .before .before .before .before .before .before .args .p) 0)) (getD (now (c .before .before .before .before .before .before .before .before .before .before .before .args .codes)) (c .before .before .before .before .before .before .next-place .result) 0) (getD (now (c .before .before .before .before .before .before .before .before .before .before .before .args .codes)) (c .before .before .before .before .before .next-place2 .result) 0) (c .one-inverse .result)
+mates-counted c = place-mates (c .before .before .before .before .before .before .before .before .before .before .before .pre .1 .0) (c .before .before .before .before .before .before .before .before .before .before .before .pre .1 .1 .1 .1) (rw (c .before .inverse .ensures) at (c .one-inverse .ensures))
 
 next-place-requires : tie.Need-next-place-requires
 next-place-requires c κs = paired-in-three _ _ (c .before .before .before .before .pre .1 .1 .1 .0)
@@ -74,7 +74,7 @@ shared-slice-read-n : tie.Need-shared-slice-read-n
 shared-slice-read-n c = room (c .before .before) (c .before .before .before .before .before .before .before .next-place .result) .0
 
 sub-n : tie.Need-sub-n
-sub-n c = mates (c .before) .next-least
+sub-n c = mates-counted (c .before) .next-least
 
 cast-m : tie.Need-cast-m
 cast-m c = omega (arith, c .before .before .before .before .before .before .before .before .before .before .before .before .pre .1 .0 .small (c .before .before .before .before .before .before .next-place2 .result))
@@ -86,7 +86,7 @@ shared-slice-read-m : tie.Need-shared-slice-read-m
 shared-slice-read-m c = room (c .before .before .before) (c .before .before .before .before .before .before .before .next-place2 .result) .0
 
 sub-m : tie.Need-sub-m
-sub-m c = mates (c .before .before) .after-least
+sub-m c = mates-counted (c .before .before) .after-least
 
 side-mark-requires : tie.Need-side-mark-requires
 side-mark-requires c κs = search needs
@@ -98,13 +98,13 @@ if-plain-requires-2 : tie.Need-if-plain-requires-2
 if-plain-requires-2 c κs = search needs
 
 add-t25 : tie.Need-add-t25
-add-t25 c = omega (arith, c .before .if-plain .ensures .1, c .if-plain2 .ensures .1, mates (c .before .before .before .before .before) .next-most, mates (c .before .before .before .before .before) .after-most)
+add-t25 c = omega (arith, c .before .if-plain .ensures .1, c .if-plain2 .ensures .1, mates-counted (c .before .before .before .before .before) .next-most, mates-counted (c .before .before .before .before .before) .after-most)
 
 returns : tie.Need-returns
 returns c =
     let f = found (c .before .before .before .before .before .before .before .before .before .before) in
     let t = c .before .before .before .before .before .before .before .before .before .before .before .before .before .before .before .before .pre .1 .1 .1 .0 in
-    let m = mates (c .before .before .before .before .before) in (
+    let m = mates-counted (c .before .before .before .before .before) in (
       c .before .before .side-mark .ensures .0 ∙ mark-by _ _ _ _ t f _ _ (m .next) (m .after),
       (
         rw (c .before .if-plain .ensures .0, c .if-plain2 .ensures .0) (pairs-by _ _ _ _ t f _ _ (m .next) (m .after)),
