@@ -1,6 +1,7 @@
 //! Compares the compiled program with the reference on random lists:
 //! driver PROGRAM [LISTS OF EACH KIND] [SEED] [FAULTS AFTER WHICH THE RUN ENDS].
 
+mod added;
 mod changes;
 mod large;
 mod lists;
@@ -23,8 +24,8 @@ use table::Table;
 /// A program that has not answered by then hangs.
 const PATIENCE: Duration = Duration::from_secs(120);
 
-/// Whether there was something to check in a list, or what is wrong.
-type Check<'a> = dyn Fn(&List) -> Result<bool, String> + 'a;
+/// What was found in a list, or what is wrong.
+type Check<'a, A> = dyn Fn(&List) -> Result<A, String> + 'a;
 
 /// One kind of texts and how many of them are made.
 struct Work {
@@ -100,11 +101,13 @@ impl Run {
                 self.check_list(work.kind, &list, i % 3 == 0, r);
                 self.check_change(work.kind, &list, r);
                 self.check_truth(work.kind, &list);
+                self.check_added(work.kind, &list, r);
             }
             Make::Large(kind) => {
                 let list = (kind.make)(r);
                 self.check_list(work.kind, &list, false, r);
                 self.check_change(work.kind, &list, r);
+                self.check_added(work.kind, &list, r);
             }
             Make::Padded => self.check_text(work.kind, &texts::padded(&any_list(r), r)),
             Make::TurnedAway => self.check_text(work.kind, &texts::turned_away(r)),
@@ -152,7 +155,7 @@ impl Run {
         let seed = r.next();
         let check = |l: &List| changes::check(&self.program, l, &mut Random::new(seed));
         let compared = self.check_with(kind, "a changed list differs", list, &check);
-        self.table.lock().unwrap().row(kind).changed += usize::from(compared);
+        self.table.lock().unwrap().row(kind).changed += usize::from(compared.unwrap_or(true));
     }
 
     fn check_truth(&self, kind: &'static str, list: &List) {
@@ -160,17 +163,26 @@ impl Run {
             return;
         }
         let tried = self.check_with(kind, "a sheet is not true", list, &|l| truth::check(&self.program, l));
-        self.table.lock().unwrap().row(kind).truths += usize::from(tried);
+        self.table.lock().unwrap().row(kind).truths += usize::from(tried.unwrap_or(true));
     }
 
-    /// Whether there was something to check; a fault is made smaller and reported.
-    fn check_with(&self, kind: &'static str, what: &str, list: &List, check: &Check) -> bool {
-        if let Ok(checked) = check(list) {
-            return checked;
+    fn check_added(&self, kind: &'static str, list: &List, r: &mut Random) {
+        let seed = r.next();
+        let sheet_of = |l: &List| program::answer(&self.program, &texts::plain(l));
+        let check = |l: &List| added::check(&sheet_of, l, &mut Random::new(seed));
+        if let Some(Some(case)) = self.check_with(kind, "more clauses part two nets", list, &check) {
+            self.table.lock().unwrap().count_added(kind, case);
+        }
+    }
+
+    /// What was found; a fault is made smaller and reported.
+    fn check_with<A>(&self, kind: &'static str, what: &str, list: &List, check: &Check<A>) -> Option<A> {
+        if let Ok(found) = check(list) {
+            return Some(found);
         }
         let small = shrink::list(list, &|l| check(l).is_err());
         self.report(kind, what, &texts::plain(&small), &check(&small).err().unwrap_or_default());
-        true
+        None
     }
 
     fn report_difference(&self, kind: &'static str, text: &[u8]) {

@@ -1,10 +1,13 @@
 //! Compares the product's static library with the reference, call by call in this process, with rows and buffers of many
-//! lengths and every round limit: library [LISTS OF EACH KIND] [SEED]. Built with the feature `library`.
+//! lengths and every round limit, and its sheets of a list and of one with more clauses with each other:
+//! library [LISTS OF EACH KIND] [SEED]. Built with the feature `library`.
 
+mod added;
 #[allow(dead_code)]
 mod large;
 mod lists;
 mod random;
+mod sheets;
 mod texts;
 
 use random::Random;
@@ -172,7 +175,14 @@ fn check_close(list: &ClauseList, row: &[i32], limit: u32, rows: Rows) -> Call {
     Call { name: if unfinished { "close, unfinished" } else { "close" }, number, right }
 }
 
-fn check_sheet(list: &ClauseList, row: &[i32], limit: u32, rows: Rows, buffer: usize) -> Call {
+/// What a call of the sheet answers and leaves.
+struct Sheet {
+    told: (u32, usize),
+    rows: (Vec<u32>, Vec<u32>),
+    text: (Vec<u8>, usize),
+}
+
+fn call_sheet(list: &ClauseList, row: &[i32], limit: u32, rows: Rows, buffer: usize) -> Sheet {
     let (mut leads, mut work) = (vec![OLD_WORD; rows.leads], vec![OLD_WORD; rows.work]);
     let mut text = vec![OLD; buffer];
     let (mut written, mut place) = (OLD_SIZE, OLD_SIZE);
@@ -182,11 +192,28 @@ fn check_sheet(list: &ClauseList, row: &[i32], limit: u32, rows: Rows, buffer: u
         let (n, m, t) = (rows.leads, rows.work, text.as_mut_ptr());
         cuddremai_sheet(nets, clauses, p, row.len(), limit, l, n, w, m, t, buffer, &mut written, &mut place)
     };
+    Sheet { told: (number, place), rows: (leads, work), text: (text, written) }
+}
+
+fn check_sheet(list: &ClauseList, row: &[i32], limit: u32, rows: Rows, buffer: usize) -> Call {
+    let found = call_sheet(list, row, limit, rows, buffer);
     let expected = reference::sheet(list, limit as u64, rows, buffer);
-    let right = (number, place) == told(&expected)
-        && (text, written) == text_after(&expected, buffer)
-        && (leads, work) == rows_after(list, limit, rows, expected.is_err());
-    Call { name: "sheet", number, right }
+    let right = found.told == told(&expected)
+        && found.text == text_after(&expected, buffer)
+        && found.rows == rows_after(list, limit, rows, expected.is_err());
+    Call { name: "sheet", number: found.told.0, right }
+}
+
+/// The sheet of a list as the program would print it, or its refusal, under any round limit.
+fn sheet_text(list: &lists::List, limit: u32) -> String {
+    let list = clause_list(list);
+    let row = entries(&list);
+    let rows = Rows { leads: list.nets as usize, work: 16_384 };
+    let Sheet { told: (number, place), text: (text, written), .. } = call_sheet(&list, &row, limit, rows, 16_384);
+    if number != 0 {
+        return format!("refusal,place\n{number},{place}\n");
+    }
+    String::from_utf8_lossy(&text[..written]).into_owned()
 }
 
 fn check_compare(input: &[u8], buffer: usize) -> Call {
@@ -202,10 +229,19 @@ fn check_compare(input: &[u8], buffer: usize) -> Call {
     Call { name: "compare", number, right }
 }
 
+fn clause_list(list: &lists::List) -> ClauseList {
+    let row = list.clauses.iter().flat_map(|c| c.iter().copied().chain([0])).collect();
+    ClauseList { nets: list.nets as u64, clauses: list.clauses.len() as u64, row }
+}
+
+/// The literal row that is lent.
+fn entries(list: &ClauseList) -> Vec<i32> {
+    list.row.iter().map(|&x| x as i32).collect()
+}
+
 /// A list as a caller may hand it over: mostly sound, sometimes with sizes or entries that do not fit.
 fn handed(list: &lists::List, r: &mut Random) -> ClauseList {
-    let mut row: Vec<i64> = list.clauses.iter().flat_map(|c| c.iter().copied().chain([0])).collect();
-    let (mut nets, mut clauses) = (list.nets as u64, list.clauses.len() as u64);
+    let ClauseList { mut nets, mut clauses, mut row } = clause_list(list);
     if r.once_in(6) {
         nets = r.pick(&[nets + 1, nets.saturating_sub(1), 1_025, u32::MAX as u64]);
     }
@@ -224,7 +260,7 @@ fn handed(list: &lists::List, r: &mut Random) -> ClauseList {
 
 /// All calls for one list; the name of the first that is wrong.
 fn fault(list: &ClauseList, text: &[u8], tally: &mut Tally, r: &mut Random) -> Option<String> {
-    let row: Vec<i32> = list.row.iter().map(|&x| x as i32).collect();
+    let row = entries(list);
     let nets = list.nets.min(2_000) as usize;
     let limit = r.pick(&[0, 1, 2, 3, list.nets as u32, list.nets.min(9_999) as u32 + 1, u32::MAX]);
     let rows = Rows {
@@ -249,25 +285,61 @@ fn fault(list: &ClauseList, text: &[u8], tally: &mut Tally, r: &mut Random) -> O
     Some(format!("{wrong}: row of {room}, buffers of {buffer} and {sheet}, limit {limit}, {rows:?}"))
 }
 
+/// A list and a larger one under one limit; what is wrong with their sheets.
+fn added_fault(list: &lists::List, cases: &mut added::Cases, r: &mut Random) -> Option<String> {
+    let limit = r.pick(&[0, 1, 2, 3, list.nets as u32, list.nets as u32 + 1]);
+    match added::check(&|l| sheet_text(l, limit), list, r) {
+        Ok(None) => None,
+        Ok(Some(case)) => {
+            cases.count(case);
+            None
+        }
+        Err(what) => Some(format!("more clauses part two nets: limit {limit}, {what}")),
+    }
+}
+
+/// How many of the cases that must come did not.
+fn missing_cases(cases: &added::Cases) -> usize {
+    let must = [
+        "settled, then settled in fewer",
+        "settled, then unfinished",
+        "settled, then contradiction",
+        "contradiction, then contradiction in fewer",
+    ];
+    let missing: Vec<_> = must.iter().filter(|case| !cases.0.keys().any(|c| c.starts_with(*case))).collect();
+    missing.iter().for_each(|case| println!("FAULT: with clauses added, {case}: never came"));
+    missing.len()
+}
+
+/// The text for the i-th list of a kind.
+fn text_of(list: &lists::List, i: usize, r: &mut Random) -> Vec<u8> {
+    match i % 4 {
+        0 => texts::damaged(texts::dressed(list, r), r),
+        1 => texts::turned_away(r),
+        2 if i % 20 == 2 => texts::padded(list, r),
+        _ => texts::plain(list),
+    }
+}
+
 fn main() {
     let args: Vec<String> = std::env::args().collect();
     let count: usize = args.get(1).map_or(1_000, |n| n.parse().expect("a number of lists"));
     let seed: u64 = args.get(2).map_or(1, |n| n.parse().expect("a seed"));
-    println!("seed {seed}, {count} lists of each kind, five calls for each");
+    println!("seed {seed}, {count} lists of each kind, five calls for each, and a larger list");
     let mut r = Random::new(seed);
     let mut faults = 0;
     let mut compared = 0;
     let mut tally = Tally::new();
+    let mut cases = added::Cases::default();
     for (kind, many) in lists::KINDS.iter().map(|k| (k, count)).chain(large::LARGE.iter().map(|k| (k, count / 100 + 2)))
     {
         for i in 0..many {
             let list = lists::random_list(kind, &mut r);
-            let text = match i % 4 {
-                0 => texts::damaged(texts::dressed(&list, &mut r), &mut r),
-                1 => texts::turned_away(&mut r),
-                2 if i % 20 == 2 => texts::padded(&list, &mut r),
-                _ => texts::plain(&list),
-            };
+            let text = text_of(&list, i, &mut r);
+            if let Some(what) = added_fault(&list, &mut cases, &mut r) {
+                faults += 1;
+                println!("FAULT ({}): {what}\n{:?}", kind.name, list.clauses);
+            }
             let list = handed(&list, &mut r);
             compared += 1;
             if let Some(what) = fault(&list, &text, &mut tally, &mut r) {
@@ -279,6 +351,8 @@ fn main() {
     for (call, numbers) in &tally {
         println!("{call}: {numbers:?}");
     }
+    cases.print();
+    faults += missing_cases(&cases);
     println!("{compared} lists, {faults} faults");
     std::process::exit(if faults == 0 { 0 } else { 1 });
 }

@@ -60,14 +60,19 @@ fn disturb(list: &mut List, r: &mut Random) {
         let i = r.below(list.clauses.len());
         list.clauses.remove(i);
     }
+    repeat_clauses(&mut list.clauses, r);
+}
+
+/// Up to two clauses once more, their literals out of order, some with a literal repeated or its inverse added.
+pub fn repeat_clauses(clauses: &mut Clauses, r: &mut Random) {
     for _ in 0..r.below(3) {
-        if !list.clauses.is_empty() {
-            let mut again = list.clauses[r.below(list.clauses.len())].clone();
+        if !clauses.is_empty() {
+            let mut again = clauses[r.below(clauses.len())].clone();
             r.shuffle(&mut again);
             if let (true, Some(&l)) = (r.once_in(2), again.first()) {
                 again.push(if r.once_in(4) { -l } else { l });
             }
-            list.clauses.push(again);
+            clauses.push(again);
         }
     }
 }
@@ -130,7 +135,8 @@ fn random_clauses(r: &mut Random) -> List {
     list
 }
 
-fn random_gate(nets: usize, r: &mut Random) -> Clauses {
+/// A gate on some of the nets, of which there are at least four.
+pub fn random_gate(nets: usize, r: &mut Random) -> Clauses {
     let count = r.between(3, 5.min(nets));
     let p = pins(nets, count.max(4), r);
     match r.below(3) {

@@ -1,5 +1,6 @@
 //! What was compared, for the table at the end.
 
+use crate::added::Cases;
 use crate::sheets;
 use std::collections::BTreeMap;
 
@@ -11,13 +12,14 @@ pub struct Row {
     pub compared: usize,
     pub changed: usize,
     pub truths: usize,
+    pub added: usize,
     pub faults: usize,
     pub seconds: f64,
 }
 
 impl Row {
     fn print(&self, kind: &str) {
-        print!("{kind:<16}{:>10}{:>10}{:>10}", self.compared, self.changed, self.truths);
+        print!("{kind:<16}{:>10}{:>10}{:>10}{:>10}", self.compared, self.changed, self.truths, self.added);
         println!("{:>10}{:>10.1}", self.faults, self.seconds);
     }
 }
@@ -30,6 +32,8 @@ pub struct Table {
     /// lists of at least two nets that took V rounds, and V + 1
     longest: [usize; 2],
     refusals: BTreeMap<u32, usize>,
+    /// how the answers to a list and to a larger one compared
+    added: Cases,
 }
 
 /// Rounds are counted by their number up to 9, then by the power of ten below.
@@ -61,6 +65,12 @@ impl Table {
         }
     }
 
+    /// Counts a list that was compared with a larger one.
+    pub fn count_added(&mut self, kind: &'static str, case: String) {
+        self.row(kind).added += 1;
+        self.added.count(case);
+    }
+
     pub fn missing_refusals(&self) -> Vec<u32> {
         REFUSALS.iter().copied().filter(|n| !self.refusals.contains_key(n)).collect()
     }
@@ -70,13 +80,15 @@ impl Table {
     }
 
     pub fn print(&self) {
-        println!("{:<16}{:>10}{:>10}{:>10}{:>10}{:>10}", "kind", "compared", "changed", "truth", "faults", "seconds");
+        print!("{:<16}{:>10}{:>10}{:>10}{:>10}", "kind", "compared", "changed", "truth", "added");
+        println!("{:>10}{:>10}", "faults", "seconds");
         let mut sum = Row::default();
         for (kind, row) in &self.rows {
             row.print(kind);
             sum.compared += row.compared;
             sum.changed += row.changed;
             sum.truths += row.truths;
+            sum.added += row.added;
             sum.faults += row.faults;
             sum.seconds += row.seconds;
         }
@@ -85,5 +97,6 @@ impl Table {
         println!("rounds {:?} (10, 100, 1000: from there on)", self.rounds);
         println!("V rounds {}, V + 1 rounds {} (V at least 2)", self.longest[0], self.longest[1]);
         println!("refusals {:?}", self.refusals);
+        self.added.print();
     }
 }

@@ -2,10 +2,10 @@
 -- Assumes nothing.
 use mathlib.Core.Path.{_≡_, refl, sym, _∙_, ap, ap₂, subst, subst⁻¹}
 use mathlib.Core.Logic.{_⊎_, inl, inr}
-use mathlib.Core.List.{List, [], _∷_, map, Memᴰ·cast}
+use mathlib.Core.List.{List, [], _∷_, map, map-id, Memᴰ·cast}
 use Prim.Native.Nat.{ℕ, _≤_}
 use Rattle.clauses.specs.Code.{negate, net}
-use Rattle.clauses.specs.Clause.{Within, Same, Present}
+use Rattle.clauses.specs.Clause.{Within, Same, Present, Included}
 use Rattle.clauses.proofs.Lists.{mem-map, mem-of-map}
 use Rattle.clauses.proofs.Codes.{net-negate, same-net}
 
@@ -68,3 +68,12 @@ image-back {ρ} {σ} {cs} {ds} im =
 -- nets up to V stay so
 pub record Inside (v : ℕ) (ρ : ℕ → ℕ) : Type 0 where
   pub stays : (a : ℕ) → net a ≤ v → net (ρ a) ≤ v
+
+-- No name changed
+
+pub same-names : Renaming (λ x. x) (λ x. x)
+same-names = record { undo = λ a. refl; redo = λ a. refl; inverse = λ a. refl; zero-stays = refl }
+
+-- the images are then the clauses themselves
+pub images-included : {cs ds : List (List ℕ)} → Included cs ds → (c : List ℕ) → Present cs c → Present ds (map (λ x. x) c)
+images-included {ds = ds} more c h = subst⁻¹ (Present ds) (map-id c) (more c h)

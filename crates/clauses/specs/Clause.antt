@@ -46,3 +46,7 @@ pub record Present (cs : List (List ℕ)) (c : List ℕ) : Type 0 where
   pub listed : List·Memᴰ found cs
   pub proper : ¬ Tautology found
   pub same : Same c found
+
+-- ds 'holds every clause of' cs, as sets and ignored ones aside: so neither the order of either list nor what it repeats matters
+abbrev pub Included : List (List ℕ) → List (List ℕ) → Type 0
+Included cs ds = (c : List ℕ) → Present cs c → Present ds c

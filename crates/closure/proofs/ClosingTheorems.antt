@@ -9,7 +9,7 @@ use native.Mathlib.Omega.{arith}
 use lib.IntN.{ℤ}
 use lib.ListN.{length, getD, take, drop, length-replicate}
 use lib.Seq.{take-at}
-use Rattle.clauses.specs.Clause.{clausesOf}
+use Rattle.clauses.specs.Clause.{clausesOf, Included}
 use Rattle.clauses.specs.Listing.{mem, Fits}
 use Rattle.clauses.specs.Limit.{maxEntries}
 use Rattle.clauses.specs.Lists.{any, all}
@@ -26,10 +26,11 @@ use Rattle.rules.specs.Grouping.{After}
 use Rattle.rules.specs.Answer.{Answer, Leads, on-contradiction, otherwise, noLead, IsAnswer, Joined}
 use Rattle.rules.specs.Assignment.{Assignment, Satisfies}
 use Rattle.rules.specs.Renaming.{Renamed}
+use Rattle.rules.specs.Monotone.{Monotone}
 use Rattle.rules.specs.Compute.{answer}
 use Rattle.closure.specs.Closing.{listTests, closingTests, Outcome, refused, summary, accepted, closing, Answers}
 use Rattle.closure.specs.Passed.{closeRounds}
-use Rattle.rules.proofs.Theorems.{answer-exact, answer-joined, answer-true, contradiction-true, settled-bound, rounds-bound, answer-beyond, demand-three}
+use Rattle.rules.proofs.Theorems.{answer-exact, answer-joined, answer-true, contradiction-true, settled-bound, rounds-bound, answer-beyond, demand-three, answers-monotone}
 use Rattle.gates.proofs.CountBounds.{counts-few}
 use Rattle.rules.proofs.Groups.{own-length}
 use Rattle.closure.proofs.ClosingTests.{closing-parts, none-holds-fits, never-unfinished, rounds-accepted, accepted-fits, accepted-passed, accepted-outcome}
@@ -143,6 +144,18 @@ pub closing-renamed : (v c d limit : ℕ) (row sow : List ℤ) (leads work leads
 closing-renamed v c d limit row sow leads work leads′ work′ a b ρ h k ren images =
     rw (answers-is v c row limit leads work a h, answers-is v d sow limit leads′ work′ b k)
     (demand-three v limit (clausesOf row) (clausesOf sow) ρ (fit v c row limit leads work a h) (fit v d sow limit leads′ work′ b k) ren images)
+
+-- More clauses never part two nets: two lists of one V that closing accepts under one round limit, the second holding every clause of the first.
+module _
+    (v c d limit : ℕ) (row sow : List ℤ) (leads work leads′ work′ : List ℕ) (a b : Answer)
+    (h : Answers v c row limit leads work a) (k : Answers v d sow limit leads′ work′ b) (more : Included (clausesOf row) (clausesOf sow)) where
+  pub closing-monotone : Monotone (clausesOf row) (clausesOf sow) a b
+  closing-monotone = answers-monotone v limit (clausesOf row) (clausesOf sow) a b (closing-exact v c row limit leads work a h) (closing-exact v d sow limit leads′ work′ b k) more
+
+  -- So what is joined in the first answer is joined in the second.
+  pub closing-stays-joined : (x y : ℕ) → Joined a x y → Joined b x y
+  closing-stays-joined x y j =
+      closing-joined v d sow limit leads′ work′ b k x y .1 (closing-monotone .joined x y (closing-joined v c row limit leads work a h x y .0 j))
 
 -- A limit over V is enough: the list is settled, or there is a contradiction.
 pub closing-finished : (v c : ℕ) (row : List ℤ) (limit : ℕ) (leads work : List ℕ) (a : Answer) → v < limit → Answers v c row limit leads work a → a .verdict ≢ Unfinished

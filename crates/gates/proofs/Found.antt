@@ -3,7 +3,7 @@
 use mathlib.Core.Logic.{_↔_}
 use mathlib.Core.List.{List}
 use Prim.Native.Nat.{ℕ}
-use Rattle.clauses.specs.Clause.{Present}
+use Rattle.clauses.specs.Clause.{Present, Included}
 use Rattle.gates.specs.Found.{Found}
 use Rattle.gates.proofs.MoreClauses.{and-present, xor-present, ite-present}
 
@@ -27,8 +27,8 @@ found-same {cs} {ds} same f =
       side-found = λ l c t e g. f .side-found l c t e (ite-present back g);
     }
   where
-    to : (c : List ℕ) → Present cs c → Present ds c
+    to : Included cs ds
     to c = same c .0
 
-    back : (c : List ℕ) → Present ds c → Present cs c
+    back : Included ds cs
     back c = same c .1

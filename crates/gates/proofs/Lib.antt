@@ -1,4 +1,3 @@
-pub mod MoreClauses
 pub mod Signs
 pub mod Ands
 pub mod Xors
@@ -7,6 +6,7 @@ pub mod ItesListed
 pub mod Counting
 pub mod Counted
 pub mod Renamed
+pub mod MoreClauses
 pub mod Rows
 pub mod Places
 pub mod Walks

@@ -15,7 +15,7 @@ use Rattle.rules.specs.Grouping.{After}
 use Rattle.rules.specs.Ending.{Still, Clash, Ends, contradiction, settled, unfinished}
 use Rattle.rules.specs.Answer.{own}
 use Rattle.rules.specs.Compute.{gatesOf, Grouping, by-leads, everything, round}
-use Rattle.rules.proofs.Groupings.{after-grows, still-has}
+use Rattle.rules.proofs.Groupings.{after-grows, still-joined}
 use Rattle.rules.proofs.Endings.{settled-at}
 use Rattle.rules.proofs.Rounds.{Row, Made, round-made}
 use Rattle.rules.proofs.Closing.{first-is}
@@ -55,7 +55,7 @@ module _ (v : ℕ) (cs : List (List ℕ)) (fit : Fits v cs) where
   pub ends-bounded : {limit n : ℕ} {w : Verdict} → Ends cs limit w n → n ≤ suc v
   ends-bounded (contradiction {n = zero} a h f) = omega arith
   ends-bounded (contradiction {n = suc m} a h f) =
-      suc-le-suc (changes-bound m (f m (omega arith)) (λ i q s. f i (omega arith) (still-has cs i (suc m) 1 0 (omega arith) s h)))
+      suc-le-suc (changes-bound m (f m (omega arith)) (λ i q s. f i (omega arith) (still-joined cs i (suc m) 1 0 s h)))
   ends-bounded (settled {n = n} p a s e) = let q = changes-bound n (p n a) e in omega arith
   ends-bounded {limit} (unfinished p e) = let q = changes-bound limit (p limit (omega arith)) (λ i q. e i (omega arith)) in omega arith
 

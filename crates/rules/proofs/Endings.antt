@@ -1,4 +1,4 @@
--- How closing ends: in one way only, shown at one round, and in the same way under a renaming.
+-- How closing ends: in one way only, shown at one round, with all that a round within the limit joins, and in the same way under a renaming.
 -- Assumes nothing.
 use mathlib.Core.Path.{_≡_, refl, sym, subst₂}
 use mathlib.Core.Logic.{_≢_}
@@ -13,7 +13,7 @@ use Rattle.clauses.proofs.Renaming.{Renaming, one-stays, renaming-back, Image, 
 use Rattle.rules.specs.Grouping.{After}
 use Rattle.rules.specs.Ending.{Still, Clash, Ends, contradiction, settled, unfinished}
 use Rattle.rules.proofs.RenamedRules.{after-renamed}
-use Rattle.rules.proofs.Groupings.{after-all, after-later, still-has}
+use Rattle.rules.proofs.Groupings.{after-all, after-later, still-joined}
 
 pub record Agree (w u : Verdict) (n m : ℕ) : Type 0 where
   pub verdicts : w ≡ u
@@ -29,14 +29,7 @@ module _ (cs : List (List ℕ)) (limit : ℕ) where
 
   -- the first number of rounds after which the next changes nothing, T and F not being joined then
   pub settled-at : {n : ℕ} → n ≤ limit → ¬ Clash cs n → Still cs n → ((i : ℕ) → i < n → ¬ Still cs i) → Ends cs limit Settled n
-  settled-at {n} a p s e = settled never a s e
-    where
-      never : (i : ℕ) → i ≤ limit → ¬ Clash cs i
-      never i q h = go (decLe n i)
-        where
-          go : Dec (n ≤ i) → ⊥
-          go (yes r) = p (still-has cs n i 1 0 r s h)
-          go (no r) = p (after-later cs i n 1 0 (omega arith) h)
+  settled-at {n} a p s e = settled (λ i q h. p (still-joined cs n i 1 0 s h)) a s e
 
   pub unfinished-at : ¬ Clash cs limit → ((i : ℕ) → i ≤ limit → ¬ Still cs i) → Ends cs limit Unfinished limit
   unfinished-at p e = unfinished (no-clash-to p) e
@@ -61,6 +54,29 @@ module _ (cs : List (List ℕ)) (limit : ℕ) where
   ends-once (unfinished p e) (settled {n = m} q b t g) = absurd (e m b t)
   ends-once (unfinished p e) (unfinished q g) = record { verdicts = refl; rounds = refl }
 
+  -- Rounds within the limit
+
+  pub ends-within : {w : Verdict} {n : ℕ} → Ends cs limit w n → n ≤ limit
+  ends-within (contradiction q h f) = q
+  ends-within (settled p q s e) = q
+  ends-within (unfinished p e) = omega arith
+
+  -- what one of them joins is joined at the end
+  pub ends-joined : {w : Verdict} {n : ℕ} → Ends cs limit w n → (i a b : ℕ) → i ≤ limit → After cs i a b → After cs n a b
+  ends-joined (contradiction {n = n} q h f) i a b r k = after-all cs n a b h
+  ends-joined (settled {n = n} p q s e) i a b r k = still-joined cs n i a b s k
+  ends-joined (unfinished p e) i a b r k = after-later cs i limit a b r k
+
+  -- and if one of them joins T to F, there is a contradiction, in no later round
+  pub ends-first : {w : Verdict} {n : ℕ} → Ends cs limit w n → (i : ℕ) → i ≤ limit → Clash cs i → (w ≡ Contradiction) × (n ≤ i)
+  ends-first (contradiction {n = n} q h f) i r k = (refl, go (decLe n i))
+    where
+      go : Dec (n ≤ i) → n ≤ i
+      go (yes t) = t
+      go (no t) = absurd (f i (omega arith) k)
+  ends-first (settled p q s e) i r k = absurd (p i r k)
+  ends-first (unfinished p e) i r k = absurd (p i r k)
+
 -- after a contradiction everything is joined, and else T is not joined to F
 pub ends-clash : {cs : List (List ℕ)} {limit n : ℕ} → Ends cs limit Contradiction n → (a b : ℕ) → After cs n a b
 ends-clash {cs} {limit} {n} e = go (e)
@@ -82,7 +98,7 @@ module _ (ρ σ : ℕ → ℕ) (cs ds : List (List ℕ)) (im : Image ρ σ cs ds
   pub after-forth : (n a b : ℕ) → After cs n a b → After ds n (ρ a) (ρ b)
   after-forth n a b h = after-renamed ρ σ ren cs ds (im .forth) n a b h
 
-  pub after-undone : (n a b : ℕ) → After ds n a b → After cs n (σ a) (σ b)
+  after-undone : (n a b : ℕ) → After ds n a b → After cs n (σ a) (σ b)
   after-undone n a b h = after-renamed σ ρ (renaming-back ρ σ ren) ds cs (image-back im .forth) n a b h
 
   pub after-from : (n a b : ℕ) → After ds n (ρ a) (ρ b) → After cs n a b

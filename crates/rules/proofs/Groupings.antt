@@ -1,18 +1,18 @@
--- Groupings: they are equivalences, they grow from round to round, and they stay as they are once a round changes nothing.
+-- Groupings: they are equivalences, they grow from round to round and with the clauses, and they stay as they are once a round changes nothing.
 -- Assumes nothing.
-use mathlib.Core.Path.{_≡_, refl, ap, subst, subst⁻¹}
+use mathlib.Core.Path.{_≡_, subst}
 use mathlib.Core.Logic.{inl, inr}
-use mathlib.Core.List.{List, [], _∷_, map}
+use mathlib.Core.List.{List}
 use Prim.Native.Nat.{ℕ, zero, suc, _≤_}
 use native.Mathlib.Omega.{arith}
 use native.Mathlib.Decide.{ℕ-discrete}
 use Rattle.clauses.specs.Code.{negate}
-use Rattle.clauses.specs.Clause.{Present}
-use Rattle.clauses.proofs.Renaming.{Renaming}
+use Rattle.clauses.specs.Clause.{Included}
+use Rattle.clauses.proofs.Renaming.{same-names, images-included}
 use Rattle.rules.specs.Rule.{Concludes}
 use Rattle.rules.specs.Grouping.{Closure, Next, After}
 use Rattle.rules.specs.Ending.{Still}
-use Rattle.rules.proofs.RenamedRules.{concludes-renamed, closure-renamed}
+use Rattle.rules.proofs.RenamedRules.{concludes-renamed, closure-renamed, after-renamed}
 
 module _ (cs : List (List ℕ)) where
   pub after-back : (n a b : ℕ) → After cs n a b → After cs n b a
@@ -52,48 +52,24 @@ module _ (cs : List (List ℕ)) where
 
 -- A coarser grouping lets the rules draw more
 
-pub same-names : Renaming (λ x. x) (λ x. x)
-same-names = record { undo = λ a. refl; redo = λ a. refl; inverse = λ a. refl; zero-stays = refl }
-
-pub map-same : (c : List ℕ) → map (λ x. x) c ≡ c
-map-same [] = refl
-map-same (x ∷ c) = ap (λ (t : List ℕ). x ∷ t) (map-same c)
-
 pub concludes-more : (cs : List (List ℕ)) (G H : ℕ → ℕ → Type 0) → ((a b : ℕ) → G a b → H a b) → {a b : ℕ} → Concludes cs G a b → Concludes cs H a b
-concludes-more cs G H up h = concludes-renamed (λ x. x) (λ x. x) same-names G H up cs cs (λ c p. subst⁻¹ (Present cs) (map-same c) p) h
+concludes-more cs G H up h = concludes-renamed (λ x. x) (λ x. x) same-names G H up cs cs (images-included (λ c p. p)) h
 
 pub closure-more : (R S : ℕ → ℕ → Type 0) → ((a b : ℕ) → R a b → S a b) → {a b : ℕ} → Closure R a b → Closure S a b
 closure-more R S up h = closure-renamed (λ x. x) (λ x. x) same-names R S up h
 
+-- So do more clauses: what is joined after n rounds of a list is joined after n rounds of every list that holds its clauses
+pub after-more : {cs ds : List (List ℕ)} → Included cs ds → (n a b : ℕ) → After cs n a b → After ds n a b
+after-more {cs} {ds} more = after-renamed (λ x. x) (λ x. x) same-names cs ds (images-included more)
+
 -- A round that changes nothing
 
-module _ (cs : List (List ℕ)) where
-  still-next : (n : ℕ) → Still cs n → Still cs (suc n)
-  unfolding After
-  still-next n s a b h = closure-more (Next cs (After cs (suc n))) (Next cs (After cs n)) go h
-    where
-      go : (a b : ℕ) → Next cs (After cs (suc n)) a b → Next cs (After cs n) a b
-      go a b (inl k) = inl (s a b k)
-      go a b (inr k) = inr (concludes-more cs (After cs (suc n)) (After cs n) s k)
-
-  still-later : (n m : ℕ) → n ≤ m → Still cs n → Still cs m
-  still-later n zero h s = subst (Still cs) (zero-only h) s
-    where
-      zero-only : n ≤ 0 → n ≡ 0
-      zero-only q = omega arith
-  still-later n (suc m) h s = go (ℕ-discrete n (suc m)) (still-later n m)
-    where
-      go : Dec (n ≡ suc m) → (n ≤ m → Still cs n → Still cs m) → Still cs (suc m)
-      go (yes e) ih = subst (Still cs) e s
-      go (no e) ih = still-next m (ih (omega arith) s)
-
-  pub still-has : (n m a b : ℕ) → n ≤ m → Still cs n → After cs m a b → After cs n a b
-  still-has n zero a b h s k = subst⁻¹ (λ (i : ℕ). After cs i a b) (zero-only h) k
-    where
-      zero-only : n ≤ 0 → n ≡ 0
-      zero-only q = omega arith
-  still-has n (suc m) a b h s k = go (ℕ-discrete n (suc m)) (still-has n m a b)
-    where
-      go : Dec (n ≡ suc m) → (n ≤ m → Still cs n → After cs m a b → After cs n a b) → After cs n a b
-      go (yes e) ih = subst⁻¹ (λ (i : ℕ). After cs i a b) e k
-      go (no e) ih = ih (omega arith) s (still-later n m (omega arith) s a b k)
+-- before it everything is joined that is joined after any number of rounds
+pub still-joined : (cs : List (List ℕ)) (n m a b : ℕ) → Still cs n → After cs m a b → After cs n a b
+unfolding After
+still-joined cs n zero a b s k = after-later cs 0 n a b (omega arith) k
+still-joined cs n (suc m) a b s k = s a b (closure-more (Next cs (After cs m)) (Next cs (After cs n)) (go (λ x y. still-joined cs n m x y s)) k)
+  where
+    go : ((x y : ℕ) → After cs m x y → After cs n x y) → (x y : ℕ) → Next cs (After cs m) x y → Next cs (After cs n) x y
+    go ih x y (inl h) = inl (ih x y h)
+    go ih x y (inr h) = inr (concludes-more cs (After cs m) (After cs n) ih h)

@@ -1,16 +1,16 @@
 -- Two lists in which the same clauses are present have one answer.
 -- Assumes nothing.
-use mathlib.Core.Path.{_≡_, subst, subst⁻¹}
+use mathlib.Core.Path.{_≡_, subst}
 use mathlib.Core.Logic.{_↔_}
-use mathlib.Core.List.{List}
+use mathlib.Core.List.{List, map-id}
 use Prim.Native.Nat.{ℕ}
 use Rattle.clauses.specs.Clause.{Present}
 use Rattle.clauses.specs.Listing.{Fits}
-use Rattle.clauses.proofs.Renaming.{Image}
+use Rattle.clauses.proofs.Renaming.{Image, same-names, images-included}
 use Rattle.rules.specs.Compute.{Closed, closed}
 use Rattle.rules.specs.Grouping.{After}
-use Rattle.rules.proofs.Groupings.{same-names, map-same}
-use Rattle.rules.proofs.Endings.{after-forth, after-undone, ends-renamed}
+use Rattle.rules.proofs.Groupings.{after-more}
+use Rattle.rules.proofs.Endings.{ends-renamed}
 use Rattle.rules.proofs.Rounds.{Row}
 use Rattle.rules.proofs.Closing.{Ran, with-row, with-none, closed-ran, closed-is}
 
@@ -19,8 +19,8 @@ module _ (v : ℕ) (cs ds : List (List ℕ)) (same : (c : List ℕ) → Present 
   image =
       record {
         ren = same-names;
-        forth = λ c h. subst⁻¹ (Present ds) (map-same c) (same c .0 h);
-        back = λ c h. same c .1 (subst (Present ds) (map-same c) h);
+        forth = images-included (λ c. same c .0);
+        back = λ c h. same c .1 (subst (Present ds) (map-id c) h);
       }
 
   row-same : (n : ℕ) (l : List ℕ) → Row v l (After cs n) → Row v l (After ds n)
@@ -29,8 +29,8 @@ module _ (v : ℕ) (cs ds : List (List ℕ)) (same : (c : List ℕ) → Present 
         size = r .size;
         rep = record {
           canonical = r .rep .canonical;
-          sound = λ a b e. after-forth (λ x. x) (λ x. x) cs ds image n a b (r .rep .sound a b e);
-          complete = λ a b h. r .rep .complete a b (after-undone (λ x. x) (λ x. x) cs ds image n a b h);
+          sound = λ a b e. after-more (λ c. same c .0) n a b (r .rep .sound a b e);
+          complete = λ a b h. r .rep .complete a b (after-more (λ c. same c .1) n a b h);
         };
       }
 

@@ -1,4 +1,4 @@
--- The theorems about the computed answer to a list of nets 1 to V under any round limit.
+-- The theorems about the answer to a list of nets 1 to V under any round limit.
 -- Assumes nothing.
 use mathlib.Core.Path.{_≡_, sym, _∙_, subst}
 use mathlib.Core.Logic.{inl, _↔_, _≢_}
@@ -7,6 +7,7 @@ use mathlib.Core.List.{List, List·Memᴰ}
 use Prim.Native.Nat.{ℕ, suc, _*_, _≤_, _<_}
 use lib.ListN.{getD}
 use Rattle.rules.specs.declared.Verdict.the-variants.{Contradiction, Settled, Unfinished}
+use Rattle.clauses.specs.Clause.{Included}
 use Rattle.clauses.specs.Listing.{Fits}
 use Rattle.clauses.specs.Renaming.{Renames, Images}
 use Rattle.clauses.proofs.Extended.{extension}
@@ -15,7 +16,10 @@ use Rattle.rules.specs.Answer.{Answer, IsAnswer, Joined}
 use Rattle.rules.specs.Compute.{closed, tally, answer}
 use Rattle.rules.specs.Assignment.{Assignment, Satisfies}
 use Rattle.rules.specs.Renaming.{Renamed}
+use Rattle.rules.specs.Monotone.{Monotone}
 use Rattle.rules.specs.Starred.{Starred, starred}
+use Rattle.rules.proofs.Groupings.{after-more}
+use Rattle.rules.proofs.Endings.{ends-within, ends-joined, ends-first, ends-clash}
 use Rattle.rules.proofs.Closing.{Ran, settled≢contradiction, closed-ran}
 use Rattle.rules.proofs.Answers.{ran-answer, is-answer-once, ran-joined}
 use Rattle.rules.proofs.Truth.{satisfied-apart, ran-true}
@@ -77,6 +81,17 @@ demand-three v limit cs ds ρ p q ren images =
     renamed-agrees (e .agrees)
     (ran-renamed v (e .there) (e .back) cs ds (e .image) (e .there-inside) (e .back-inside) limit p q
     (closed v cs limit) (closed v ds limit) (closed-ran v cs p limit) (closed-ran v ds q limit))
+
+-- More clauses never part two nets: the answers to a list and to one that holds every clause of it, under one round limit.
+pub answers-monotone : (v limit : ℕ) (cs ds : List (List ℕ)) (a b : Answer) → IsAnswer v cs limit a → IsAnswer v ds limit b → Included cs ds → Monotone cs ds a b
+answers-monotone v limit cs ds a b p q more =
+    record {
+      joined = λ x y h. ends-joined ds limit (q .ends) (a .rounds) x y within (after-more more (a .rounds) x y h);
+      contradictions = λ e. ends-first ds limit (q .ends) (a .rounds) within (after-more more (a .rounds) 1 0 (ends-clash (rw e at (p .ends)) 1 0));
+    }
+  where
+    within : a .rounds ≤ limit
+    within = ends-within cs limit (p .ends)
 
 -- The starred lists, as facts about the rules.
 pub starred-answers : (s : Starred) → List·Memᴰ s starred → IsAnswer (s .nets) (s .clauses) (suc (s .nets)) (s .result)

@@ -5,4 +5,5 @@ pub mod Answer
 pub mod Compute
 pub mod Assignment
 pub mod Renaming
+pub mod Monotone
 pub mod Starred
