@@ -6,21 +6,8 @@ use crate::random::Random;
 use crate::{sheets, texts};
 use reference::{F, T};
 use std::cmp::Ordering;
-use std::collections::BTreeMap;
 
-/// How many pairs of answers there were of each case.
-#[derive(Default)]
-pub struct Cases(pub BTreeMap<String, usize>);
-
-impl Cases {
-    pub fn count(&mut self, case: String) {
-        *self.0.entry(case).or_default() += 1;
-    }
-
-    pub fn print(&self) {
-        println!("with clauses added {:#?}", self.0);
-    }
-}
+pub const TITLE: &str = "with clauses added";
 
 /// How the answers to a list and to one with clauses added compare, if neither is refused, or what is wrong.
 pub fn check(sheet_of: &dyn Fn(&List) -> String, list: &List, r: &mut Random) -> Result<Option<String>, String> {
@@ -89,18 +76,11 @@ fn is_kept(a: &str, b: &str) -> bool {
         return is_contradiction(b) && rounds(b) <= rounds(a);
     }
     let (Some(before), Some(after)) = (sheets::leads(a), sheets::leads(b)) else { return is_contradiction(b) };
-    before.len() == after.len() && before.iter().zip(&after).all(|(&x, &lead)| lead_in(&after, x) == lead)
+    before.len() == after.len() && before.iter().zip(&after).all(|(&x, &lead)| sheets::lead_of(&after, x) == lead)
 }
 
 fn is_contradiction(sheet: &str) -> bool {
     sheets::verdict(sheet) == "contradiction"
-}
-
-fn lead_in(leads: &[i64], x: i64) -> i64 {
-    match x {
-        T | F => x,
-        _ => x.signum() * leads[x.unsigned_abs() as usize - 1],
-    }
 }
 
 fn rounds(sheet: &str) -> u64 {

@@ -1,6 +1,6 @@
 //! Demand 3 by running: a list and a changed one have the same sheet but for names.
 
-use crate::lists::{signed, List};
+use crate::lists::{self, signed, List};
 use crate::random::Random;
 use crate::{program, sheets, texts};
 use std::collections::HashMap;
@@ -22,7 +22,7 @@ impl Renaming {
     }
 
     fn image(&self, x: i64) -> i64 {
-        x.signum() * self.0[x.unsigned_abs() as usize - 1]
+        lists::image(&self.0, x)
     }
 }
 

@@ -2,9 +2,12 @@
 //! driver PROGRAM [LISTS OF EACH KIND] [SEED] [FAULTS AFTER WHICH THE RUN ENDS].
 
 mod added;
+mod cases;
 mod changes;
+mod copies;
 mod large;
 mod lists;
+mod missing;
 mod program;
 mod random;
 mod sheets;
@@ -14,7 +17,9 @@ mod table;
 mod texts;
 mod truth;
 
+use copies::Copied;
 use lists::{Kind, List};
+use missing::Missing;
 use random::Random;
 use std::sync::atomic::{AtomicUsize, Ordering};
 use std::sync::Mutex;
@@ -38,6 +43,7 @@ struct Work {
 enum Make {
     Small(&'static Kind),
     Large(&'static Kind),
+    Copies,
     Padded,
     Damaged,
     TurnedAway,
@@ -51,6 +57,7 @@ fn plan(count: usize) -> Vec<Work> {
     for kind in &lists::KINDS {
         plan.push(Work { kind: kind.name, count, make: Make::Small(kind) });
     }
+    plan.push(Work { kind: "copies", count: count + 50, make: Make::Copies });
     plan.push(Work { kind: "padded", count: count / 10 + 10, make: Make::Padded });
     plan.push(Work { kind: "damaged", count: 10 * count, make: Make::Damaged });
     plan.push(Work { kind: "turned away", count: count / 2 + 20, make: Make::TurnedAway });
@@ -109,6 +116,7 @@ impl Run {
                 self.check_change(work.kind, &list, r);
                 self.check_added(work.kind, &list, r);
             }
+            Make::Copies => self.check_copies(work.kind, &Copied::random(r), r),
             Make::Padded => self.check_text(work.kind, &texts::padded(&any_list(r), r)),
             Make::TurnedAway => self.check_text(work.kind, &texts::turned_away(r)),
             Make::Damaged => {
@@ -175,6 +183,25 @@ impl Run {
         }
     }
 
+    /// A design beside its copy, and compared with it.
+    fn check_copies(&self, kind: &'static str, copied: &Copied, r: &mut Random) {
+        let (beside, compared) = (copied.beside(r), copied.compared(r));
+        self.check_list(kind, &beside, false, r);
+        self.check_list(kind, &compared, false, r);
+        self.check_change(kind, &compared, r);
+        let sheet = program::answer(&self.program, &texts::plain(&beside));
+        if let Err(what) = copies::check_beside(&sheet, copied, copied.depth()) {
+            self.report(kind, "a net and its copy are apart", &texts::plain(&beside), &what);
+        }
+        let sheet = program::answer(&self.program, &texts::plain(&compared));
+        match copies::check_compared(&sheet, copied) {
+            Ok(case) => self.table.lock().unwrap().copies.count(case),
+            Err(what) => {
+                self.report(kind, "a design and its copy are not found equal", &texts::plain(&compared), &what)
+            }
+        }
+    }
+
     /// What was found; a fault is made smaller and reported.
     fn check_with<A>(&self, kind: &'static str, what: &str, list: &List, check: &Check<A>) -> Option<A> {
         if let Ok(found) = check(list) {
@@ -236,6 +263,19 @@ fn check_stated(program: &str) -> usize {
     faults
 }
 
+/// Lists that leave a net and its copy, or a comparison and F, apart; how many do not.
+fn check_missing(program: &str) -> usize {
+    let (all, mut faults) = (Missing::all(), 0);
+    for case in &all {
+        if let Err(what) = case.check(program) {
+            faults += 1;
+            println!("FAULT (stated): missing: {}: {what}", case.what);
+        }
+    }
+    println!("{} lists that leave a net and its copy apart, {faults} faults", all.len());
+    faults
+}
+
 fn seed_of_now() -> u64 {
     std::time::SystemTime::now().duration_since(std::time::UNIX_EPOCH).map_or(1, |d| d.as_secs())
 }
@@ -247,7 +287,7 @@ fn main() {
     let seed = args.get(3).map_or_else(seed_of_now, |s| s.parse().expect("a seed"));
     let most_faults = args.get(4).map_or(8, |n| n.parse().expect("a number of faults"));
     println!("seed {seed}, {count} lists of each kind");
-    let mut faults = check_stated(&program);
+    let mut faults = check_stated(&program) + check_missing(&program);
     let workers = std::thread::available_parallelism().map_or(1, |n| n.get());
     let busy = (0..workers).map(|_| Mutex::new(Some((Instant::now(), "its start".to_string())))).collect();
     let (plan, next) = (plan(count), AtomicUsize::new(0));
@@ -261,6 +301,7 @@ fn main() {
     table.print();
     faults += table.faults();
     if table.faults() < most_faults {
+        faults += table.copies.missing(copies::TITLE, &copies::MUST);
         for number in table.missing_refusals() {
             faults += 1;
             println!("FAULT: refusal {number} never came");

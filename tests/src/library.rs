@@ -1,8 +1,11 @@
 //! Compares the product's static library with the reference, call by call in this process, with rows and buffers of many
-//! lengths and every round limit, and its sheets of a list and of one with more clauses with each other:
+//! lengths and every round limit, its sheets of a list and of one with more clauses with each other, and its sheets of
+//! designs beside their copies, under limits that allow just so many rounds, with what must be joined then:
 //! library [LISTS OF EACH KIND] [SEED]. Built with the feature `library`.
 
 mod added;
+mod cases;
+mod copies;
 #[allow(dead_code)]
 mod large;
 mod lists;
@@ -10,6 +13,7 @@ mod random;
 mod sheets;
 mod texts;
 
+use cases::Cases;
 use random::Random;
 use reference::{ClauseList, Refusal, Rows, Verdict};
 use std::collections::BTreeMap;
@@ -286,7 +290,7 @@ fn fault(list: &ClauseList, text: &[u8], tally: &mut Tally, r: &mut Random) -> O
 }
 
 /// A list and a larger one under one limit; what is wrong with their sheets.
-fn added_fault(list: &lists::List, cases: &mut added::Cases, r: &mut Random) -> Option<String> {
+fn added_fault(list: &lists::List, cases: &mut Cases, r: &mut Random) -> Option<String> {
     let limit = r.pick(&[0, 1, 2, 3, list.nets as u32, list.nets as u32 + 1]);
     match added::check(&|l| sheet_text(l, limit), list, r) {
         Ok(None) => None,
@@ -298,17 +302,40 @@ fn added_fault(list: &lists::List, cases: &mut added::Cases, r: &mut Random) -> 
     }
 }
 
-/// How many of the cases that must come did not.
-fn missing_cases(cases: &added::Cases) -> usize {
-    let must = [
-        "settled, then settled in fewer",
-        "settled, then unfinished",
-        "settled, then contradiction",
-        "contradiction, then contradiction in fewer",
-    ];
-    let missing: Vec<_> = must.iter().filter(|case| !cases.0.keys().any(|c| c.starts_with(*case))).collect();
-    missing.iter().for_each(|case| println!("FAULT: with clauses added, {case}: never came"));
-    missing.len()
+/// Cases of a list and a larger one that must come.
+const MUST: [&str; 4] = [
+    "settled, then settled in fewer",
+    "settled, then unfinished",
+    "settled, then contradiction",
+    "contradiction, then contradiction in fewer",
+];
+
+/// A design beside its copy under a limit up to its depth, and compared under the bound; what is wrong with the sheets.
+fn copies_fault(cases: &mut Cases, r: &mut Random) -> Option<String> {
+    let copied = copies::Copied::random(r);
+    let (beside, compared) = (copied.beside(r), copied.compared(r));
+    let limit = r.between(1, copied.depth());
+    if let Err(what) = copies::check_beside(&sheet_text(&beside, limit as u32), &copied, limit) {
+        return Some(format!("limit {limit}, {what}{:?}", beside.clauses));
+    }
+    match copies::check_compared(&sheet_text(&compared, copied.bound as u32), &copied) {
+        Ok(case) => {
+            cases.count(case);
+            None
+        }
+        Err(what) => Some(format!("{what}{:?}", compared.clauses)),
+    }
+}
+
+/// Designs beside their copies; how many faults.
+fn check_copies(count: usize, r: &mut Random) -> usize {
+    let (mut cases, mut faults) = (Cases::default(), 0);
+    for what in (0..count).filter_map(|_| copies_fault(&mut cases, r)) {
+        faults += 1;
+        println!("FAULT (copies): {what}");
+    }
+    cases.print(copies::TITLE);
+    faults + cases.missing(copies::TITLE, &copies::MUST)
 }
 
 /// The text for the i-th list of a kind.
@@ -325,12 +352,14 @@ fn main() {
     let args: Vec<String> = std::env::args().collect();
     let count: usize = args.get(1).map_or(1_000, |n| n.parse().expect("a number of lists"));
     let seed: u64 = args.get(2).map_or(1, |n| n.parse().expect("a seed"));
-    println!("seed {seed}, {count} lists of each kind, five calls for each, and a larger list");
+    println!(
+        "seed {seed}, {count} lists of each kind, five calls for each, and a larger list; designs beside their copies"
+    );
     let mut r = Random::new(seed);
     let mut faults = 0;
     let mut compared = 0;
     let mut tally = Tally::new();
-    let mut cases = added::Cases::default();
+    let mut cases = Cases::default();
     for (kind, many) in lists::KINDS.iter().map(|k| (k, count)).chain(large::LARGE.iter().map(|k| (k, count / 100 + 2)))
     {
         for i in 0..many {
@@ -351,8 +380,9 @@ fn main() {
     for (call, numbers) in &tally {
         println!("{call}: {numbers:?}");
     }
-    cases.print();
-    faults += missing_cases(&cases);
+    cases.print(added::TITLE);
+    faults += cases.missing(added::TITLE, &MUST);
+    faults += check_copies(count + 50, &mut r);
     println!("{compared} lists, {faults} faults");
     std::process::exit(if faults == 0 { 0 } else { 1 });
 }

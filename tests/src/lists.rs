@@ -93,6 +93,11 @@ pub fn xor_clauses(literals: &[i64]) -> Clauses {
         .collect()
 }
 
+/// The XOR of the inputs as an output.
+pub fn xor_gate(l: i64, inputs: &[i64]) -> Clauses {
+    xor_clauses(&[&[-l], inputs].concat())
+}
+
 pub fn ite_clauses(l: i64, c: i64, t: i64, e: i64) -> Clauses {
     vec![vec![-c, -l, t], vec![-c, l, -t], vec![c, -l, e], vec![c, l, -e]]
 }
@@ -122,6 +127,11 @@ pub fn pins(nets: usize, count: usize, r: &mut Random) -> Vec<i64> {
     r.shuffle(&mut all);
     all.truncate(count);
     all.into_iter().map(|v| signed(v, r)).collect()
+}
+
+/// The image of a literal, entry v - 1 being that of net v.
+pub fn image(names: &[i64], x: i64) -> i64 {
+    x.signum() * names[x.unsigned_abs() as usize - 1]
 }
 
 // The kinds

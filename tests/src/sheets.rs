@@ -38,3 +38,15 @@ fn lead(line: &str) -> Option<i64> {
         number => number.parse().ok(),
     }
 }
+
+/// The lead of a literal or a constant.
+pub fn lead_of(leads: &[i64], x: i64) -> i64 {
+    match x {
+        T | F => x,
+        _ => x.signum() * leads[x.unsigned_abs() as usize - 1],
+    }
+}
+
+pub fn is_joined(leads: &[i64], x: i64, y: i64) -> bool {
+    lead_of(leads, x) == lead_of(leads, y)
+}

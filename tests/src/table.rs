@@ -1,7 +1,7 @@
 //! What was compared, for the table at the end.
 
-use crate::added::Cases;
-use crate::sheets;
+use crate::cases::Cases;
+use crate::{added, copies, sheets};
 use std::collections::BTreeMap;
 
 /// The refusals that a text can bring.
@@ -34,6 +34,8 @@ pub struct Table {
     refusals: BTreeMap<u32, usize>,
     /// how the answers to a list and to a larger one compared
     added: Cases,
+    /// how the comparisons of designs with their copies came out
+    pub copies: Cases,
 }
 
 /// Rounds are counted by their number up to 9, then by the power of ten below.
@@ -97,6 +99,7 @@ impl Table {
         println!("rounds {:?} (10, 100, 1000: from there on)", self.rounds);
         println!("V rounds {}, V + 1 rounds {} (V at least 2)", self.longest[0], self.longest[1]);
         println!("refusals {:?}", self.refusals);
-        self.added.print();
+        self.added.print(added::TITLE);
+        self.copies.print(copies::TITLE);
     }
 }

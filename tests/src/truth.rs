@@ -35,3 +35,8 @@ pub fn check(program: &str, list: &List) -> Result<bool, String> {
     let states: Vec<i64> = (1..=list.nets as i64).map(|v| if value(broken, v) { v } else { -v }).collect();
     Err(format!("its sheet:\n{sheet}an assignment that satisfies the list: {states:?}\n"))
 }
+
+/// Whether some satisfying assignment gives the two literals different values.
+pub fn can_differ(list: &List, x: i64, y: i64) -> bool {
+    (0u32..1 << list.nets).any(|a| satisfies(a, list) && value(a, x) != value(a, y))
+}

@@ -9,6 +9,7 @@ use native.Mathlib.Omega.{arith}
 use lib.IntN.{ℤ}
 use lib.ListN.{length, getD, take, drop, length-replicate}
 use lib.Seq.{take-at}
+use Rattle.clauses.specs.Code.{net}
 use Rattle.clauses.specs.Clause.{clausesOf, Included}
 use Rattle.clauses.specs.Listing.{mem, Fits}
 use Rattle.clauses.specs.Limit.{maxEntries}
@@ -23,14 +24,17 @@ use Rattle.rules.specs.declared.Verdict.the-variants.{Contradiction, Settled, U
 use Rattle.closure.specs.declared.close.Summary.{Summary}
 use Rattle.closure.specs.declared.close.Closing.the-variants.{Accepted, Refused}
 use Rattle.rules.specs.Grouping.{After}
+use Rattle.rules.specs.Ending.{Allows}
 use Rattle.rules.specs.Answer.{Answer, Leads, on-contradiction, otherwise, noLead, IsAnswer, Joined}
 use Rattle.rules.specs.Assignment.{Assignment, Satisfies}
 use Rattle.rules.specs.Renaming.{Renamed}
 use Rattle.rules.specs.Monotone.{Monotone}
+use Rattle.rules.specs.Design.{Gate}
+use Rattle.rules.specs.Copy.{Copied, Miter}
 use Rattle.rules.specs.Compute.{answer}
 use Rattle.closure.specs.Closing.{listTests, closingTests, Outcome, refused, summary, accepted, closing, Answers}
 use Rattle.closure.specs.Passed.{closeRounds}
-use Rattle.rules.proofs.Theorems.{answer-exact, answer-joined, answer-true, contradiction-true, settled-bound, rounds-bound, answer-beyond, demand-three, answers-monotone}
+use Rattle.rules.proofs.Theorems.{answer-exact, answer-joined, answer-true, contradiction-true, answer-copied, answer-compared, settled-bound, rounds-bound, answer-beyond, demand-three, answers-monotone}
 use Rattle.gates.proofs.CountBounds.{counts-few}
 use Rattle.rules.proofs.Groups.{own-length}
 use Rattle.closure.proofs.ClosingTests.{closing-parts, none-holds-fits, never-unfinished, rounds-accepted, accepted-fits, accepted-passed, accepted-outcome}
@@ -114,6 +118,16 @@ module _ (v c : ℕ) (row : List ℤ) (limit : ℕ) (leads work : List ℕ) (a :
   -- and there is a contradiction only if no assignment satisfies the list.
   pub closing-contradiction : a .verdict ≡ Contradiction → (value : ℕ → Bool) → Assignment value → ¬ Satisfies value cs
   closing-contradiction e = contradiction-true v cs fit limit (ap (λ (b : Answer). b .verdict) (sym answers-is) ∙ e)
+
+  -- Completeness on copies: where the list holds a design without loops and its copy, every literal is joined to its copy if the limit allows
+  -- as many rounds as its net's level,
+  pub closing-copied : {gs : List Gate} {ρ level : ℕ → ℕ} → Copied cs gs ρ level → (x : ℕ) → Allows v limit (level (net x)) → Joined a x (ρ x)
+  closing-copied {ρ = ρ} copied x k = subst⁻¹ (λ (b : Answer). Joined b x (ρ x)) answers-is (answer-copied v cs fit limit copied x k)
+
+  -- and if it says that some output differs from its copy, there is a contradiction, in no more rounds than the comparison is deep.
+  pub closing-compared : {gs : List Gate} {ρ level : ℕ → ℕ} → Copied cs gs ρ level → (n : ℕ) → Miter cs ρ level n → Allows v limit n
+      → (a .verdict ≡ Contradiction) × (a .rounds ≤ n)
+  closing-compared copied n miter k = subst⁻¹ (λ (b : Answer). (b .verdict ≡ Contradiction) × (b .rounds ≤ n)) answers-is (answer-compared v cs fit limit copied n miter k)
 
   -- Bounds: a settled list takes at most V rounds, a contradiction at most V + 1.
   pub closing-settled : a .verdict ≡ Settled → a .rounds ≤ v

@@ -3,14 +3,14 @@
 use mathlib.Core.Path.{_≡_, refl, sym, _∙_, ap, ap₂, subst, subst⁻¹, subst₂}
 use mathlib.Core.Logic.{eq-equivalence}
 use mathlib.Core.Bool.{Bool, true, false, cond}
-use mathlib.Core.List.{List, [], _∷_, map, Memᴰ·cast}
+use mathlib.Core.List.{List, [], _∷_, map, List·Memᴰ·tail, Memᴰ·cast}
 use Prim.Native.Nat.{ℕ, _≤_}
 use native.Mathlib.Nat.{le-antisymm}
 use lib.ListN.{length-map}
 use Rattle.clauses.specs.Code.{negate, net}
 use Rattle.clauses.specs.Clause.{Mem, Within, Same, Present}
 use Rattle.clauses.specs.Listing.{Fits}
-use Rattle.clauses.proofs.Lists.{mem-map, mem-of-map}
+use Rattle.clauses.proofs.Lists.{in-first, mem-map, mem-of-map}
 use Rattle.clauses.proofs.Picks.{perm-of-same}
 use Rattle.clauses.proofs.Renaming.{Renaming, renaming-injective, nets-injective, same-back, Image, image-back}
 use Rattle.gates.specs.Sign.{plus, flip, isInverse, parity, inverted}
@@ -23,19 +23,27 @@ use Rattle.gates.proofs.ItesListed.{ite-rewritten}
 use Rattle.gates.proofs.Counting.{same-with, counted-le}
 use Rattle.gates.proofs.Counted.{ands-counted, xors-counted, ites-counted}
 
+-- a map that keeps inverses keeps signs
+pub flip-image : (ρ : ℕ → ℕ) → ((a : ℕ) → ρ (negate a) ≡ negate (ρ a)) → (b : Bool) (a : ℕ) → ρ (flip b a) ≡ flip b (ρ a)
+flip-image ρ inv false a = refl
+flip-image ρ inv true a = inv a
+
+-- literals of different nets stay so under a map that gives no two of these nets one name
+pub apart-image : (ρ : ℕ → ℕ) {ls : List ℕ} → ((x y : ℕ) → Mem x ls → Mem y ls → net (ρ x) ≡ net (ρ y) → net x ≡ net y) → Apart ls → Apart (map ρ ls)
+apart-image ρ f Apart.empty = Apart.empty
+apart-image ρ f (Apart.more {l = l} {ls = ls} h r) =
+    Apart.more
+    (λ m k e.
+    let o = mem-of-map ρ ls k in
+    h (o .of) (o .in-list) (f (o .of) l (List·Memᴰ·tail (o .in-list)) in-first (ap net (sym (o .is)) ∙ e)))
+    (apart-image ρ (λ x y i j. f x y (List·Memᴰ·tail i) (List·Memᴰ·tail j)) r)
+
 module _ (ρ σ : ℕ → ℕ) (ren : Renaming ρ σ) where
   pub flip-renamed : (b : Bool) (a : ℕ) → ρ (flip b a) ≡ flip b (ρ a)
-  flip-renamed false a = refl
-  flip-renamed true a = ren .inverse a
+  flip-renamed = flip-image ρ (ren .inverse)
 
   apart-renamed : {ls : List ℕ} → Apart ls → Apart (map ρ ls)
-  apart-renamed Apart.empty = Apart.empty
-  apart-renamed (Apart.more {l = l} {ls = ls} h r) =
-      Apart.more
-      (λ m k e.
-      let o = mem-of-map ρ ls k in
-      h (o .of) (o .in-list) (nets-injective ρ σ ren (o .of) l (ap net (sym (o .is)) ∙ e)))
-      (apart-renamed r)
+  apart-renamed = apart-image ρ (λ x y i j e. nets-injective ρ σ ren x y e)
 
   pub input-renamed : {c : List ℕ} {l r : ℕ} → Input c l r → Input (map ρ c) (ρ l) (ρ r)
   input-renamed {c} {l} {r} h =

@@ -42,10 +42,10 @@ inverted-signed f (l ∷ ls) = go (f l) refl (inverted-signed f ls)
         (mem-map (λ (d : List ℕ). negate l ∷ d) (subst⁻¹ (λ (b : Bool). List·Memᴰ (inverted f ls) (signings ls b)) (Bool·not-not (parity f ls)) ih)))
 
 -- and what is listed is a choice of signs, where no literal stands twice
-record Choice (ls : List ℕ) (b : Bool) (c : List ℕ) : Type 0 where
-  signs : ℕ → Bool
-  count : parity signs ls ≡ b
-  makes : c ≡ inverted signs ls
+pub record Choice (ls : List ℕ) (b : Bool) (c : List ℕ) : Type 0 where
+  pub signs : ℕ → Bool
+  pub count : parity signs ls ≡ b
+  pub makes : c ≡ inverted signs ls
 
 chosen : (l : ℕ) (ls c : List ℕ) (b d : Bool) → (Mem l ls → ⊥) → Choice ls d c → Choice (l ∷ ls) (plus b d) (flip b l ∷ c)
 chosen l ls c b d n h =
@@ -55,7 +55,7 @@ chosen l ls c b d n h =
       makes = ap₂ (λ (y : ℕ) (t : List ℕ). y ∷ t) (ap (λ (s : Bool). flip s l) (sym (change-same l b (h .signs)))) (h .makes ∙ sym (change-inverted l b (h .signs) ls n));
     }
 
-signed-choice : (ls : List ℕ) → Distinct ls → (b : Bool) (c : List ℕ) → List·Memᴰ c (signings ls b) → Choice ls b c
+pub signed-choice : (ls : List ℕ) → Distinct ls → (b : Bool) (c : List ℕ) → List·Memᴰ c (signings ls b) → Choice ls b c
 unfolding signings
 signed-choice [] n false c (List·Memᴰ·head e) = record { signs = λ x. false; count = refl; makes = e }
 signed-choice [] n true c k = elim k [ ]

@@ -21,13 +21,10 @@ use Rattle.rules.specs.Grouping.{Closure}
 use Rattle.rules.specs.Answer.{leadOf}
 use Rattle.passes.specs.Making.{Kernel, Drawn}
 use Rattle.passes.specs.Xors.{LeadRow, oddNets, oddSign}
+use Rattle.rules.proofs.Groupings.{closure-flip}
 use Rattle.rules.proofs.Leads.{Canonical, Represents}
 use Rattle.rules.proofs.Cancelling.{leads-to, inverse-led, somewhere, even-cancels}
 use Rattle.passes.proofs.OddNets.{is, odd-parity}
-
-closure-flip : {R : ℕ → ℕ → Type 0} {x y : ℕ} (b : Bool) → Closure R x y → Closure R (flip b x) (flip b y)
-closure-flip false h = h
-closure-flip true h = Closure.inverses h
 
 pub sign-append : (f : ℕ → ℕ) (xs ys : List ℕ) → oddSign f (xs ++ ys) ≡ plus (oddSign f xs) (oddSign f ys)
 unfolding oddSign

@@ -1,7 +1,7 @@
 -- How many rounds closing takes: each that changes the grouping leaves fewer groups.
 -- Assumes nothing.
 use mathlib.Core.Path.{refl}
-use mathlib.Core.Logic.{_≢_}
+use mathlib.Core.Logic.{_≢_, inl, inr}
 use mathlib.Core.List.{List}
 use Prim.Native.Nat.{ℕ, zero, suc, _+_, _≤_, _<_, suc-le-suc}
 use native.Mathlib.Nat.{le-trans}
@@ -12,7 +12,7 @@ use Rattle.rules.specs.declared.Verdict.the-variants.{Contradiction, Unf
 use Rattle.clauses.specs.Listing.{Fits}
 use Rattle.gates.specs.Count.{netsOf}
 use Rattle.rules.specs.Grouping.{After}
-use Rattle.rules.specs.Ending.{Still, Clash, Ends, contradiction, settled, unfinished}
+use Rattle.rules.specs.Ending.{Still, Clash, Ends, contradiction, settled, unfinished, Allows}
 use Rattle.rules.specs.Answer.{own}
 use Rattle.rules.specs.Compute.{gatesOf, Grouping, by-leads, everything, round}
 use Rattle.rules.proofs.Groupings.{after-grows, still-joined}
@@ -68,3 +68,8 @@ module _ (v : ℕ) (cs : List (List ℕ)) (fit : Fits v cs) where
   ends-beyond h k (contradiction a c f) = contradiction (le-trans a k) c f
   ends-beyond {more = more} h k (settled {n = n} p a s e) = settled-at cs more (le-trans a k) (p n a) s e
   ends-beyond h k (unfinished p e) = absurd (ends-finished h (unfinished p e))
+
+  -- a limit that allows i rounds ends as one of i or more
+  pub ends-allowed : {limit i n : ℕ} {w : Verdict} → Allows v limit i → Ends cs limit w n → (more : ℕ) × (i ≤ more) × Ends cs more w n
+  ends-allowed {limit} (inl h) e = (limit, h, e)
+  ends-allowed {limit} {i} (inr h) e = (limit + i, omega arith, ends-beyond h (omega arith) e)

@@ -2,6 +2,7 @@
 -- Assumes nothing.
 use mathlib.Core.Path.{_≡_, subst}
 use mathlib.Core.Logic.{inl, inr}
+use mathlib.Core.Bool.{Bool, true, false}
 use mathlib.Core.List.{List}
 use Prim.Native.Nat.{ℕ, zero, suc, _≤_}
 use native.Mathlib.Omega.{arith}
@@ -9,12 +10,22 @@ use native.Mathlib.Decide.{ℕ-discrete}
 use Rattle.clauses.specs.Code.{negate}
 use Rattle.clauses.specs.Clause.{Included}
 use Rattle.clauses.proofs.Renaming.{same-names, images-included}
+use Rattle.gates.specs.Sign.{flip}
 use Rattle.rules.specs.Rule.{Concludes}
 use Rattle.rules.specs.Grouping.{Closure, Next, After}
 use Rattle.rules.specs.Ending.{Still}
 use Rattle.rules.proofs.RenamedRules.{concludes-renamed, closure-renamed, after-renamed}
 
+pub closure-flip : {R : ℕ → ℕ → Type 0} {a b : ℕ} (s : Bool) → Closure R a b → Closure R (flip s a) (flip s b)
+closure-flip false h = h
+closure-flip true h = Closure.inverses h
+
 module _ (cs : List (List ℕ)) where
+  pub after-same : (n a : ℕ) → After cs n a a
+  unfolding After
+  after-same zero a = Closure.same
+  after-same (suc n) a = Closure.same
+
   pub after-back : (n a b : ℕ) → After cs n a b → After cs n b a
   unfolding After
   after-back zero a b h = Closure.back h
@@ -24,6 +35,11 @@ module _ (cs : List (List ℕ)) where
   unfolding After
   after-chain zero a b c h k = Closure.chain h k
   after-chain (suc n) a b c h k = Closure.chain h k
+
+  pub after-flip : (n : ℕ) (s : Bool) (a b : ℕ) → After cs n a b → After cs n (flip s a) (flip s b)
+  unfolding After
+  after-flip zero s a b h = closure-flip s h
+  after-flip (suc n) s a b h = closure-flip s h
 
   pub after-clash : (n x : ℕ) → After cs n x (negate x) → After cs n 1 0
   unfolding After
@@ -35,9 +51,14 @@ module _ (cs : List (List ℕ)) where
   after-all zero a b h = Closure.collapse h
   after-all (suc n) a b h = Closure.collapse h
 
+  -- a round joins what the one before joined and what the rules draw from it
   pub after-grows : (n a b : ℕ) → After cs n a b → After cs (suc n) a b
   unfolding After
   after-grows n a b h = Closure.base (inl h)
+
+  pub after-drawn : (n : ℕ) {a b : ℕ} → Concludes cs (After cs n) a b → After cs (suc n) a b
+  unfolding After
+  after-drawn n h = Closure.base (inr h)
 
   pub after-later : (n m a b : ℕ) → n ≤ m → After cs n a b → After cs m a b
   after-later n zero a b h k = subst (λ (i : ℕ). After cs i a b) (zero-only h) k

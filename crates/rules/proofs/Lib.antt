@@ -10,9 +10,14 @@ pub mod Rounds
 pub mod Closing
 pub mod Groups
 pub mod Answers
+pub mod Encodings
 pub mod Truth
 pub mod Bounds
 pub mod RenamedAnswers
+pub mod Designs
+pub mod Comparisons
+pub mod Copies
 pub mod Starred
 pub mod Theorems
+pub mod CopyExamples
 pub mod SameLists

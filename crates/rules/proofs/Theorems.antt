@@ -5,25 +5,31 @@ use mathlib.Core.Logic.{inl, _↔_, _≢_}
 use mathlib.Core.Bool.{Bool}
 use mathlib.Core.List.{List, List·Memᴰ}
 use Prim.Native.Nat.{ℕ, suc, _*_, _≤_, _<_}
+use native.Mathlib.Omega.{arith}
 use lib.ListN.{getD}
 use Rattle.rules.specs.declared.Verdict.the-variants.{Contradiction, Settled, Unfinished}
+use Rattle.clauses.specs.Code.{net}
 use Rattle.clauses.specs.Clause.{Included}
 use Rattle.clauses.specs.Listing.{Fits}
 use Rattle.clauses.specs.Renaming.{Renames, Images}
 use Rattle.clauses.proofs.Extended.{extension}
 use Rattle.rules.specs.Grouping.{After}
+use Rattle.rules.specs.Ending.{Allows}
 use Rattle.rules.specs.Answer.{Answer, IsAnswer, Joined}
 use Rattle.rules.specs.Compute.{closed, tally, answer}
 use Rattle.rules.specs.Assignment.{Assignment, Satisfies}
 use Rattle.rules.specs.Renaming.{Renamed}
 use Rattle.rules.specs.Monotone.{Monotone}
+use Rattle.rules.specs.Design.{Gate}
+use Rattle.rules.specs.Copy.{Copied, Miter}
 use Rattle.rules.specs.Starred.{Starred, starred}
 use Rattle.rules.proofs.Groupings.{after-more}
 use Rattle.rules.proofs.Endings.{ends-within, ends-joined, ends-first, ends-clash}
 use Rattle.rules.proofs.Closing.{Ran, settled≢contradiction, closed-ran}
 use Rattle.rules.proofs.Answers.{ran-answer, is-answer-once, ran-joined}
 use Rattle.rules.proofs.Truth.{satisfied-apart, ran-true}
-use Rattle.rules.proofs.Bounds.{settled-bounded, ends-bounded, ends-finished, ends-beyond}
+use Rattle.rules.proofs.Bounds.{settled-bounded, ends-bounded, ends-finished, ends-beyond, ends-allowed}
+use Rattle.rules.proofs.Copies.{copy-joined, miter-clash}
 use Rattle.rules.proofs.RenamedAnswers.{ran-renamed, renamed-agrees}
 use Rattle.rules.proofs.Starred.{starred-computed, starred-fits}
 
@@ -52,6 +58,18 @@ module _ (v : ℕ) (cs : List (List ℕ)) (fit : Fits v cs) (limit : ℕ) where
   -- and there is a contradiction only if no assignment satisfies the list.
   pub contradiction-true : answer v cs limit .verdict ≡ Contradiction → (value : ℕ → Bool) → Assignment value → ¬ Satisfies value cs
   contradiction-true e value asg sat = satisfied-apart value asg cs sat (answer v cs limit .rounds) (answer-joined 1 0 .0 (inl e))
+
+  -- Completeness on copies: where the list holds a design without loops and its copy, every literal is joined to its copy if the limit allows
+  -- as many rounds as its net's level,
+  pub answer-copied : {gs : List Gate} {ρ level : ℕ → ℕ} → Copied cs gs ρ level → (x : ℕ) → Allows v limit (level (net x)) → Joined (answer v cs limit) x (ρ x)
+  answer-copied {ρ = ρ} {level = level} copied x h =
+      let e = ends-allowed v cs fit h (answer-exact .ends) in
+      answer-joined x (ρ x) .1 (ends-joined cs (e .0) (e .2) (level (net x)) x (ρ x) (e .1) (copy-joined copied (level (net x)) x (omega arith)))
+
+  -- and if it says that some output differs from its copy, there is a contradiction, in no more rounds than the comparison is deep.
+  pub answer-compared : {gs : List Gate} {ρ level : ℕ → ℕ} → Copied cs gs ρ level → (n : ℕ) → Miter cs ρ level n → Allows v limit n
+      → (answer v cs limit .verdict ≡ Contradiction) × (answer v cs limit .rounds ≤ n)
+  answer-compared copied n miter h = let e = ends-allowed v cs fit h (answer-exact .ends) in ends-first cs (e .0) (e .2) n (e .1) (miter-clash copied miter)
 
   -- Bounds: a settled list takes at most V rounds,
   pub settled-bound : answer v cs limit .verdict ≡ Settled → answer v cs limit .rounds ≤ v

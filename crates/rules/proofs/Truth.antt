@@ -2,18 +2,22 @@
 -- Assumes nothing.
 use mathlib.Core.Path.{_≡_, refl, sym, _∙_, ap, ap₂, subst, subst⁻¹}
 use mathlib.Core.Logic.{_⊎_, inl, inr}
-use mathlib.Core.Bool.{Bool, true, false, not, cond, _||_, or-true, true≢false, false≢true}
-use mathlib.Core.List.{List, [], _∷_, List·Memᴰ·head, List·Memᴰ·tail}
+use mathlib.Core.Bool.{Bool, true, false, not, cond, true≢false, false≢true, Bool·not-not}
+use mathlib.Core.List.{List}
 use Prim.Native.Nat.{ℕ, zero, suc, _*_, _<_}
 use native.Mathlib.Decide.{ℕ-discrete}
 use lib.ListN.{getD}
 use Rattle.clauses.specs.Code.{negate}
-use Rattle.clauses.specs.Clause.{Mem, Present}
-use Rattle.clauses.proofs.Lists.{mem-of-map}
+use Rattle.clauses.specs.Clause.{Present}
+use Rattle.clauses.specs.Listing.{present}
+use Rattle.clauses.proofs.Lists.{all-have}
 use Rattle.clauses.proofs.Codes.{negate-negate}
-use Rattle.gates.specs.Sign.{plus, flip, parity, inverted}
+use Rattle.clauses.proofs.Clauses.{present-is}
+use Rattle.gates.specs.Sign.{plus, flip, parity}
 use Rattle.gates.specs.Gate.{Input, AndGate, XorGate, IteGate}
+use Rattle.gates.specs.Listing.{signings}
 use Rattle.gates.proofs.Signs.{plus-false, plus-self, plus-cancel, plus-comm, plus-assoc, parity-pick, parity-append}
+use Rattle.gates.proofs.XorsListed.{all-signed}
 use Rattle.rules.specs.Rule.{Cancels, Covers, Concludes}
 use Rattle.rules.specs.Grouping.{Closure, Nothing, Next, After}
 use Rattle.rules.specs.Ending.{Clash}
@@ -21,42 +25,16 @@ use Rattle.rules.specs.Answer.{leadOf}
 use Rattle.rules.specs.Compute.{Closed}
 use Rattle.rules.specs.Assignment.{Assignment, True, Satisfies}
 use Rattle.rules.proofs.Endings.{ends-clash}
+use Rattle.rules.proofs.Encodings.{rest-true, only-true, inverse-is, equal-says, xor-says, ite-says}
 use Rattle.rules.proofs.Closing.{Ran, with-row, with-none, entry}
 
 -- what G joins has one value
 abbrev pub Respects : (ℕ → Bool) → (ℕ → ℕ → Type 0) → Type 0
 Respects value G = (a b : ℕ) → G a b → value a ≡ value b
 
-not-self : (b : Bool) → b ≡ not b → ⊥
+pub not-self : (b : Bool) → b ≡ not b → ⊥
 not-self true e = true≢false e
 not-self false e = false≢true e
-
--- whether some literal is true
-abbrev some : (ℕ → Bool) → List ℕ → Bool
-some value [] = false
-some value (x ∷ xs) = value x || some value xs
-
-some-true : (value : ℕ → Bool) (c : List ℕ) {x : ℕ} → Mem x c → value x ≡ true → some value c ≡ true
-some-true value (y ∷ c) (List·Memᴰ·head e) h = rw (sym (ap value e) ∙ h)
-some-true value (y ∷ c) (List·Memᴰ·tail k) h = ap (λ (b : Bool). value y || b) (some-true value c k h) ∙ or-true (value y)
-
--- what the clauses of rule 2 and of an ITE say
-two-clauses : (a b : Bool) → (a || (not b || false)) ≡ true → (not a || (b || false)) ≡ true → a ≡ b
-two-clauses false false p q = refl
-two-clauses true true p q = refl
-two-clauses false true p q = absurd (false≢true p)
-two-clauses true false p q = absurd (false≢true q)
-
-four-clauses : (l c t e : Bool) → (not c || (not l || (t || false))) ≡ true → (not c || (l || (not t || false))) ≡ true
-    → (c || (not l || (e || false))) ≡ true → (c || (l || (not e || false))) ≡ true → l ≡ cond c t e
-four-clauses false true false e p q r s = refl
-four-clauses false true true e p q r s = absurd (false≢true q)
-four-clauses true true true e p q r s = refl
-four-clauses true true false e p q r s = absurd (false≢true p)
-four-clauses false false t false p q r s = refl
-four-clauses false false t true p q r s = absurd (false≢true s)
-four-clauses true false t true p q r s = refl
-four-clauses true false t false p q r s = absurd (false≢true r)
 
 -- a summand by the sum and the other
 solve : (a s o p : Bool) → plus a s ≡ o → s ≡ p → a ≡ plus o p
@@ -89,51 +67,21 @@ module _ (value : ℕ → Bool) (asg : Assignment value) where
         drop b c p = sym (plus-assoc b c (plus c p)) ∙ ap (plus b) (plus-cancel c p)
 
   module _ (cs : List (List ℕ)) (sat : Satisfies value cs) where
-    true-in : {c : List ℕ} → Present cs c → True value c
+    pub true-in : {c : List ℕ} → Present cs c → True value c
     true-in h =
         let t = sat (h .found) (h .listed) in
         record { lit = t .lit; listed = h .same .right (t .lit) (t .listed); holds = t .holds }
 
-    -- each literal, inverted if it is true, is false
-    falsified : (x : ℕ) → value (flip (value x) x) ≡ false
-    falsified x = at-flip (value x) x ∙ plus-self (value x)
-
-    not-false : {c : List ℕ} → Present cs c → ((x : ℕ) → Mem x c → value x ≡ false) → ⊥
-    not-false h f = let t = true-in h in true≢false (sym (t .holds) ∙ f (t .lit) (t .listed))
-
     xor-sum : {ls : List ℕ} {odd : Bool} → XorGate cs ls odd → parity value ls ≡ odd
-    xor-sum {ls} {odd} g = go odd (parity value ls) refl refl
-      where
-        below : (x : ℕ) → Mem x (inverted value ls) → value x ≡ false
-        below x k = let o = mem-of-map (λ (y : ℕ). flip (value y) y) ls k in ap value (o .is) ∙ falsified (o .of)
-
-        go : (o s : Bool) → odd ≡ o → parity value ls ≡ s → parity value ls ≡ odd
-        go false false p q = q ∙ sym p
-        go true true p q = q ∙ sym p
-        go false true p q = absurd (not-false (g .all value (q ∙ ap not (sym p))) below)
-        go true false p q = absurd (not-false (g .all value (q ∙ ap not (sym p))) below)
-
-    clause-true : {c : List ℕ} → Present cs c → some value c ≡ true
-    clause-true {c} h = let t = true-in h in some-true value c (t .listed) (t .holds)
+    xor-sum {ls} {odd} g =
+        xor-says value asg ls (not odd) (λ c k. true-in (present-is cs c (all-have (present cs) (signings ls (not odd)) (all-signed g) c k))) ∙ Bool·not-not odd
 
     ite-value : {l c t e : ℕ} → IteGate cs l c t e → value l ≡ cond (value c) (value t) (value e)
-    ite-value {l} {c} {t} {e} g =
-        four-clauses (value l) (value c) (value t) (value e)
-        (rw (asg .inverse c, asg .inverse l) at (clause-true (g .then-up)))
-        (rw (asg .inverse c, asg .inverse t) at (clause-true (g .then-down)))
-        (rw (asg .inverse l) at (clause-true (g .else-up)))
-        (rw (asg .inverse e) at (clause-true (g .else-down)))
+    ite-value {l} {c} {t} {e} g = ite-says value asg l c t e (true-in (g .then-up)) (true-in (g .then-down)) (true-in (g .else-up)) (true-in (g .else-down))
 
     -- the output of an AND is true exactly when all its inputs are
     and-down : {c : List ℕ} {l r : ℕ} → AndGate cs c l → Input c l r → value l ≡ true → value r ≡ true
-    and-down {c} {l} {r} g i e = go (true-in (g .pairs r i))
-      where
-        go : True value (negate l ∷ r ∷ []) → value r ≡ true
-        go t = pick (t .listed)
-          where
-            pick : Mem (t .lit) (negate l ∷ r ∷ []) → value r ≡ true
-            pick (List·Memᴰ·head q) = absurd (false≢true (sym (ap value q ∙ asg .inverse l ∙ ap not e) ∙ t .holds))
-            pick (List·Memᴰ·tail (List·Memᴰ·head q)) = sym (ap value q) ∙ t .holds
+    and-down {r = r} g i e = only-true value asg (rest-true value asg (true-in (g .pairs r i)) (inverse-is value asg e))
 
     and-up : {c : List ℕ} {l : ℕ} → AndGate cs c l → ((r : ℕ) → Input c l r → value r ≡ true) → value l ≡ true
     and-up {c} {l} g h = go (true-in (g .clause))
@@ -176,9 +124,8 @@ module _ (value : ℕ → Bool) (asg : Assignment value) where
               pick : Dec (t .lit ≡ k) → value k ≡ value 1
               pick (yes e) = sym (ap value e) ∙ t .holds ∙ sym one-true
               pick (no n) = absurd (false≢true (sym (resp (t .lit) 0 (o (t .lit) (t .listed) n) ∙ asg .zero-false) ∙ t .holds))
-      concludes-true (Concludes.empty-clause h) = absurd (not-false h (λ x k. elim k [ ]))
-      concludes-true (Concludes.equal {a = a} {b = b} h k) =
-          two-clauses (value a) (value b) (rw (asg .inverse b) at (clause-true h)) (rw (asg .inverse a) at (clause-true k))
+      concludes-true (Concludes.empty-clause h) = elim (true-in h .listed) [ ]
+      concludes-true (Concludes.equal {a = a} {b = b} h k) = equal-says value asg a b (true-in k) (true-in h)
       concludes-true (Concludes.and-false {l = l} {r = r} g i h) =
           together l 0
           (λ e. absurd (false≢true (sym (resp r 0 h ∙ asg .zero-false) ∙ and-down g i e)))

@@ -1,5 +1,6 @@
 -- How closing ends, by the groupings alone: the verdict and the number of rounds.
 -- Assumes nothing.
+use mathlib.Core.Logic.{_⊎_}
 use mathlib.Core.List.{List}
 use Prim.Native.Nat.{ℕ, suc, _≤_, _<_}
 use Rattle.rules.specs.declared.Verdict.{Verdict}
@@ -22,3 +23,7 @@ pub data Ends (cs : List (List ℕ)) (limit : ℕ) : Verdict → ℕ → Type 0 
   settled : {n : ℕ} → ((i : ℕ) → i ≤ limit → ¬ Clash cs i) → n ≤ limit → Still cs n → ((i : ℕ) → i < n → ¬ Still cs i) → Ends cs limit Settled n
   -- 'Otherwise it is unfinished and rounds is the limit.'
   unfinished : ((i : ℕ) → i ≤ limit → ¬ Clash cs i) → ((i : ℕ) → i ≤ limit → ¬ Still cs i) → Ends cs limit Unfinished limit
+
+-- the limit allows n rounds, or is over V and so allows all that change anything
+abbrev pub Allows : (v limit n : ℕ) → Type 0
+Allows v limit n = (n ≤ limit) ⊎ (v < limit)

@@ -6,4 +6,6 @@ pub mod Compute
 pub mod Assignment
 pub mod Renaming
 pub mod Monotone
+pub mod Design
+pub mod Copy
 pub mod Starred

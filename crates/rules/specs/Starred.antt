@@ -4,8 +4,8 @@ use mathlib.Core.List.{List, [], _∷_, _++_}
 use Prim.Native.Nat.{ℕ, _+_, _*_}
 use Rattle.rules.specs.declared.Verdict.{Verdict}
 use Rattle.rules.specs.declared.Verdict.the-variants.{Contradiction, Settled}
-use Rattle.clauses.specs.Code.{negate}
 use Rattle.rules.specs.Answer.{Answer, noLead}
+use Rattle.rules.specs.Design.{ite, encoding}
 
 -- net w, and its inverse
 abbrev p : ℕ → ℕ
@@ -27,10 +27,6 @@ gives cs w r v a x i g ls =
 -- the sheet's six clauses
 abbrev sheet : List (List ℕ)
 sheet = (m 3 ∷ p 1 ∷ []) ∷ (m 3 ∷ p 2 ∷ []) ∷ (p 3 ∷ m 1 ∷ m 2 ∷ []) ∷ (m 4 ∷ p 1 ∷ []) ∷ (m 4 ∷ p 2 ∷ []) ∷ (p 4 ∷ m 1 ∷ m 2 ∷ []) ∷ []
-
--- the four clauses of l = c ? t : e
-abbrev ite : ℕ → ℕ → ℕ → ℕ → List (List ℕ)
-ite l c t e = (negate c ∷ negate l ∷ t ∷ []) ∷ (negate c ∷ l ∷ negate t ∷ []) ∷ (c ∷ negate l ∷ e ∷ []) ∷ (c ∷ l ∷ negate e ∷ []) ∷ []
 
 abbrev pub starred : List Starred
 starred =
@@ -57,7 +53,7 @@ starred =
     gives (sheet ++ ((m 5 ∷ p 3 ∷ p 4 ∷ []) ∷ (m 5 ∷ m 3 ∷ m 4 ∷ []) ∷ (p 5 ∷ m 3 ∷ p 4 ∷ []) ∷ (p 5 ∷ p 3 ∷ m 4 ∷ []) ∷ (p 5 ∷ []) ∷ []))
     Contradiction 2 5 2 1 0 0 (noLead ∷ noLead ∷ noLead ∷ noLead ∷ noLead ∷ []) ∷
     -- 4 = 1 ? 2 : 3 and 5 = 1 ? -2 : -3, eight clauses: settled,1,5,0,0,2,4, lead of 5 is -4
-    gives (ite (p 4) (p 1) (p 2) (p 3) ++ ite (p 5) (p 1) (m 2) (m 3)) Settled 1 5 0 0 2 4 (p 1 ∷ p 2 ∷ p 3 ∷ p 4 ∷ m 4 ∷ []) ∷
+    gives (encoding (ite (p 4) (p 1) (p 2) (p 3)) ++ encoding (ite (p 5) (p 1) (m 2) (m 3))) Settled 1 5 0 0 2 4 (p 1 ∷ p 2 ∷ p 3 ∷ p 4 ∷ m 4 ∷ []) ∷
     -- (-1 -3 2)(-1 3 -2)(1 -3 2)(1 3 -2): settled,1,3,0,0,2,2, lead of 3 is 2
     gives ((m 1 ∷ m 3 ∷ p 2 ∷ []) ∷ (m 1 ∷ p 3 ∷ m 2 ∷ []) ∷ (p 1 ∷ m 3 ∷ p 2 ∷ []) ∷ (p 1 ∷ p 3 ∷ m 2 ∷ []) ∷ [])
     Settled 1 3 0 0 2 2 (p 1 ∷ p 2 ∷ p 2 ∷ []) ∷ []
