@@ -69,7 +69,7 @@ module _ (v : ℕ) (cs : List (List ℕ)) (fit : Fits v cs) where
   ends-beyond {more = more} h k (settled {n = n} p a s e) = settled-at cs more (le-trans a k) (p n a) s e
   ends-beyond h k (unfinished p e) = absurd (ends-finished h (unfinished p e))
 
-  -- a limit that allows i rounds ends as one of i or more
+  -- under a limit that allows i rounds closing ends as under some limit of i or more
   pub ends-allowed : {limit i n : ℕ} {w : Verdict} → Allows v limit i → Ends cs limit w n → (more : ℕ) × (i ≤ more) × Ends cs more w n
   ends-allowed {limit} (inl h) e = (limit, h, e)
   ends-allowed {limit} {i} (inr h) e = (limit + i, omega arith, ends-beyond h (omega arith) e)

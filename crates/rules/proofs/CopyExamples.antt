@@ -1,10 +1,10 @@
--- Examples: the clauses of the tenth starred list are those of a design, its copy and their comparison, which takes as many rounds as the theorem
--- allows; and a loop, in which a net and its copy are left apart.
+-- Examples: the tenth starred list is a design, its copy and their comparison, which takes as many rounds as the theorem allows; and a loop, in
+-- which a net and its copy are left apart.
 -- Assumes nothing.
 use mathlib.Core.Path.{_≡_, refl, sym, _∙_, ap, ap₂}
 use mathlib.Core.Logic.{_≢_, inl}
 use mathlib.Core.Bool.{Bool, true, false, not, false≢true, Bool·not-not}
-use mathlib.Core.List.{List, [], _∷_, _++_, List·Memᴰ·head, List·Memᴰ·tail, List·Memᴰ·eq-of-singleton}
+use mathlib.Core.List.{List, [], _∷_, _++_, List·Memᴰ, List·Memᴰ·head, List·Memᴰ·tail, List·Memᴰ·eq-of-singleton}
 use Prim.Native.Nat.{ℕ, _+_, _*_, _%_, _≤_, _<_}
 use native.Mathlib.Omega.{arith}
 use native.Mathlib.Decide.{ℕ-discrete}
@@ -14,23 +14,25 @@ use Rattle.rules.specs.declared.Verdict.the-variants.{Contradiction, Set
 use Rattle.clauses.specs.Code.{negate, net}
 use Rattle.clauses.specs.Clause.{Mem}
 use Rattle.clauses.specs.Lists.{any, all, keep, each, also, only, from, sameList, picks, choose}
-use Rattle.clauses.specs.Listing.{mem, within, sameSet, tautology, present, literals, clauseSets, fits}
+use Rattle.clauses.specs.Listing.{mem, within, sameSet, tautology, present, literals, clauseSets}
 use Rattle.clauses.proofs.Lists.{in-first, any-has, all-have}
 use Rattle.clauses.proofs.Codes.{net-negate, net-double}
-use Rattle.clauses.proofs.Clauses.{present-is, present-same, fits-is}
+use Rattle.clauses.proofs.Clauses.{present-is, present-same}
 use Rattle.gates.specs.Sign.{plus, isInverse}
 use Rattle.gates.specs.Listing.{ands, signings, xorClauses, literalsOf, isThen, isElse, ites}
 use Rattle.gates.specs.Count.{andCount, netsOf, xors, xorCount, isPlain, iteCount}
 use Rattle.gates.proofs.Signs.{isInverse-negate}
 use Rattle.gates.proofs.ItesListed.{nets-apart}
-use Rattle.rules.specs.Answer.{leadOf, own}
+use Rattle.rules.specs.Answer.{Answer, leadOf, own}
 use Rattle.rules.specs.Assignment.{Assignment, Satisfies}
 use Rattle.rules.specs.Compute.{parities, byClause, byAnd, covers, byAnds, byXor, byXors, byIte, byItes, gatesOf, aloneAndPaired, conclusions, replace, joinLeads, joinAll, sameLead, round, run, closed, tally, answer}
 use Rattle.rules.specs.Design.{Gate, and, xor, encoding, ProperPins, HoldsGate}
 use Rattle.rules.specs.Copy.{EqualsCopy, driven, Copied, by-xor, Miter, asserted}
+use Rattle.rules.specs.Starred.{Starred, compared, starred}
+use Rattle.rules.proofs.Starred.{starred-computed, starred-fits}
 use Rattle.rules.proofs.Theorems.{answer-compared}
 
--- 3 = 1 AND 2, which is copied as 4
+-- 3 = 1 AND 2 is copied as 4, and 5 = 3 XOR 4 is true
 abbrev gate : Gate
 gate = and 6 (2 ∷ 4 ∷ [])
 
@@ -39,10 +41,6 @@ abbrev ρ : ℕ → ℕ
 
 abbrev level : ℕ → ℕ
 level w = elim (eqb w 3) [ true ↦ 1 | false ↦ 0 ]
-
--- with 5 = 3 XOR 4, which is true
-abbrev list : List (List ℕ)
-list = encoding gate ++ (encoding (and 8 (2 ∷ 4 ∷ [])) ++ (encoding (xor 10 (6 ∷ 8 ∷ [])) ++ ((10 ∷ []) ∷ [])))
 
 ρ-three : (x : ℕ) → net x ≡ 3 → ρ x ≡ x + 2
 ρ-three x e = rw (eq-eqb (net x) 3 e, ρ)
@@ -53,14 +51,14 @@ list = encoding gate ++ (encoding (and 8 (2 ∷ 4 ∷ [])) ++ (encoding (xor 10 
 holds : (cs : List (List ℕ)) (g : Gate) → ProperPins g → all (present cs) (encoding g) ≡ true → HoldsGate cs g
 holds cs g p e = record { proper = p; clauses = λ c k. present-same (k .same) (present-is cs (k .found) (all-have (present cs) (encoding g) e (k .found) (k .listed))) }
 
-copied : Copied list (gate ∷ []) ρ level
+copied : Copied compared (gate ∷ []) ρ level
 unfolding any all mem within sameSet tautology present signings
 copied =
     record {
       levelized = λ g k. rw (List·Memᴰ·eq-of-singleton k) lower;
       inverses = λ x. inverses x (ℕ-discrete (net x) 3);
-      design = λ g k. rw (List·Memᴰ·eq-of-singleton k) (holds list gate (proper 6 (omega arith) (omega arith)) refl);
-      copy = λ g k. rw (List·Memᴰ·eq-of-singleton k) (holds list (and 8 (2 ∷ 4 ∷ [])) (proper 8 (omega arith) (omega arith)) refl);
+      design = λ g k. rw (List·Memᴰ·eq-of-singleton k) (holds compared gate (proper 6 (omega arith) (omega arith)) refl);
+      copy = λ g k. rw (List·Memᴰ·eq-of-singleton k) (holds compared (and 8 (2 ∷ 4 ∷ [])) (proper 8 (omega arith) (omega arith)) refl);
       shared = λ w h. shared w h (ℕ-discrete w 3);
       equal = λ w h. equal w h (ℕ-discrete w 3);
     }
@@ -88,25 +86,26 @@ copied =
     shared w h (yes e) = let z : _≡_ {A = ℕ} 1 0 = sym (ap level e) ∙ h in omega arith
     shared w h (no d) = ρ-other (2 * w) (λ q. d (sym (net-double w) ∙ q))
 
-    equal : (w : ℕ) → 0 < level w → Dec (w ≡ 3) → EqualsCopy list (gate ∷ []) ρ w
+    equal : (w : ℕ) → 0 < level w → Dec (w ≡ 3) → EqualsCopy compared (gate ∷ []) ρ w
     equal w h (yes e) = driven in-first (sym e)
     equal w h (no d) = let z : level w ≡ 0 = rw (ne-eqb w 3 d, level) in absurd (omega arith)
 
-miter : Miter list ρ level 2
+miter : Miter compared ρ level 2
 unfolding any all mem within sameSet tautology present signings
 miter =
     asserted (by-xor {n = 2} {o = 6} (omega arith)
-    (holds list (xor 10 (6 ∷ 8 ∷ [])) (nets-apart (record { cl = omega arith; tl = omega arith; tc = omega arith }), omega arith, omega arith) refl))
-    (present-is list (10 ∷ []) refl)
+    (holds compared (xor 10 (6 ∷ 8 ∷ [])) (nets-apart (record { cl = omega arith; tl = omega arith; tc = omega arith }), omega arith, omega arith) refl))
+    (present-is compared (10 ∷ []) refl)
+
+abbrev tenth : (s : Starred) × List·Memᴰ s starred
+tenth = (_, List·Memᴰ·tail (List·Memᴰ·tail (List·Memᴰ·tail (List·Memᴰ·tail (List·Memᴰ·tail (List·Memᴰ·tail (List·Memᴰ·tail (List·Memᴰ·tail (List·Memᴰ·tail in-first)))))))))
 
 -- The design is found equal within 2 rounds, and not in fewer.
-pub copy-compared : (answer 5 list 6 .verdict ≡ Contradiction) × (answer 5 list 6 .rounds ≤ 2)
-unfolding all fits signings
-copy-compared = answer-compared 5 list (fits-is 5 list refl) 6 copied 2 miter (inl (omega arith))
+pub copy-compared : (answer 5 compared 6 .verdict ≡ Contradiction) × (answer 5 compared 6 .rounds ≤ 2)
+copy-compared = answer-compared 5 compared (starred-fits (tenth .0) (tenth .1)) 6 copied 2 miter (inl (omega arith))
 
-pub bound-reached : answer 5 list 6 .rounds ≡ 2
-unfolding any all keep each also only from sameList picks choose mem within sameSet tautology present literals clauseSets isInverse ands signings xorClauses literalsOf isThen isElse ites andCount netsOf xors xorCount isPlain iteCount leadOf own parities byClause byAnd covers byAnds byXor byXors byIte byItes gatesOf aloneAndPaired conclusions replace joinLeads joinAll sameLead round run closed tally answer
-bound-reached = refl
+pub bound-reached : answer 5 compared 6 .rounds ≡ 2
+bound-reached = ap (λ (a : Answer). a .rounds) (starred-computed (tenth .0) (tenth .1))
 
 -- A loop: 3 = 1 AND 4 and 4 = 2 AND 3, copied as 5 and 6
 abbrev loop : List (List ℕ)

@@ -28,6 +28,10 @@ gives cs w r v a x i g ls =
 abbrev sheet : List (List ℕ)
 sheet = (m 3 ∷ p 1 ∷ []) ∷ (m 3 ∷ p 2 ∷ []) ∷ (p 3 ∷ m 1 ∷ m 2 ∷ []) ∷ (m 4 ∷ p 1 ∷ []) ∷ (m 4 ∷ p 2 ∷ []) ∷ (p 4 ∷ m 1 ∷ m 2 ∷ []) ∷ []
 
+-- and then (-5 3 4)(-5 -3 -4)(5 -3 4)(5 3 -4)(5)
+abbrev pub compared : List (List ℕ)
+compared = sheet ++ ((m 5 ∷ p 3 ∷ p 4 ∷ []) ∷ (m 5 ∷ m 3 ∷ m 4 ∷ []) ∷ (p 5 ∷ m 3 ∷ p 4 ∷ []) ∷ (p 5 ∷ p 3 ∷ m 4 ∷ []) ∷ (p 5 ∷ []) ∷ [])
+
 abbrev pub starred : List Starred
 starred =
     -- V 0, no clause: settled,0,0,0,0,0,0
@@ -50,8 +54,7 @@ starred =
     gives ((m 3 ∷ p 1 ∷ []) ∷ (m 3 ∷ p 2 ∷ []) ∷ (p 3 ∷ m 1 ∷ m 2 ∷ []) ∷ (p 1 ∷ p 2 ∷ []) ∷ (m 1 ∷ m 2 ∷ []) ∷ [])
     Settled 2 3 3 0 0 1 (p 1 ∷ m 1 ∷ 0 ∷ []) ∷
     -- The sheet's six clauses, then (-5 3 4)(-5 -3 -4)(5 -3 4)(5 3 -4)(5): contradiction,2,5,2,1,0,0
-    gives (sheet ++ ((m 5 ∷ p 3 ∷ p 4 ∷ []) ∷ (m 5 ∷ m 3 ∷ m 4 ∷ []) ∷ (p 5 ∷ m 3 ∷ p 4 ∷ []) ∷ (p 5 ∷ p 3 ∷ m 4 ∷ []) ∷ (p 5 ∷ []) ∷ []))
-    Contradiction 2 5 2 1 0 0 (noLead ∷ noLead ∷ noLead ∷ noLead ∷ noLead ∷ []) ∷
+    gives compared Contradiction 2 5 2 1 0 0 (noLead ∷ noLead ∷ noLead ∷ noLead ∷ noLead ∷ []) ∷
     -- 4 = 1 ? 2 : 3 and 5 = 1 ? -2 : -3, eight clauses: settled,1,5,0,0,2,4, lead of 5 is -4
     gives (encoding (ite (p 4) (p 1) (p 2) (p 3)) ++ encoding (ite (p 5) (p 1) (m 2) (m 3))) Settled 1 5 0 0 2 4 (p 1 ∷ p 2 ∷ p 3 ∷ p 4 ∷ m 4 ∷ []) ∷
     -- (-1 -3 2)(-1 3 -2)(1 -3 2)(1 3 -2): settled,1,3,0,0,2,2, lead of 3 is 2
