@@ -9,7 +9,7 @@ use Rattle.clauses.specs.Lists.{all}
 use Rattle.clauses.specs.Listing.{mem}
 use Rattle.clauses.specs.Refusal.{numberOf, Test, decide}
 use Rattle.clauses.specs.declared.refusal.Refusal.{Refusal}
-use Rattle.clauses.proofs.Lists.{in-first, all-have}
+use Rattle.clauses.proofs.Lists.{or-right, in-first, all-have}
 
 -- no test holds
 abbrev pub NoneHolds : List Test → Type 0
@@ -57,6 +57,16 @@ module _ {A : Type 0} (refused : Refusal → A) (accepted : A) where
 -- a test has one of these numbers, or does not hold
 unfoldable pub isAmong : List ℕ → Test → Bool
 isAmong ns t = mem (numberOf (t .refusal)) ns || not (t .holds)
+
+-- a test that does not hold
+pub fails-among : (ns : List ℕ) (t : Test) → t .holds ≡ false → isAmong ns t ≡ true
+unfolding isAmong
+fails-among ns t e = rw e (or-right (mem (numberOf (t .refusal)) ns) refl)
+
+pub none-among : (ns : List ℕ) (ts : List Test) → NoneHolds ts → all (isAmong ns) ts ≡ true
+unfolding all
+none-among ns [] n = refl
+none-among ns (t ∷ ts) n = rw (fails-among ns t (n .0), all) (none-among ns ts (n .1))
 
 among-number : (ns : List ℕ) (t : Test) → isAmong ns t ≡ true → t .holds ≡ true → mem (numberOf (t .refusal)) ns ≡ true
 unfolding isAmong

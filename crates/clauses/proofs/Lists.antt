@@ -4,7 +4,7 @@
 use mathlib.Core.Path.{_≡_, refl, sym, _∙_, ap, ap₂, subst, subst⁻¹}
 use mathlib.Core.Logic.{_≢_, _⊎_, inl, inr}
 use mathlib.Core.Bool.{Bool, true, false, cond, not, _&&_, _||_, false≢true}
-use mathlib.Core.List.{List, [], _∷_, _++_, map, List·Memᴰ, List·Memᴰ·head, List·Memᴰ·tail, List·Memᴰ·append-cases, Memᴰ·append-left, Memᴰ·append-right, List·Memᴰ·eq-of-singleton}
+use mathlib.Core.List.{List, [], _∷_, _++_, map, append-assoc, List·Memᴰ, List·Memᴰ·head, List·Memᴰ·tail, List·Memᴰ·append-cases, Memᴰ·append-left, Memᴰ·append-right, List·Memᴰ·eq-of-singleton}
 use Prim.Native.Nat.{ℕ, zero, suc, _+_, _≤_, _<_}
 use native.Mathlib.Omega.{arith}
 use native.Mathlib.Decide.{ℕ-discrete}
@@ -122,6 +122,15 @@ module _ {A : Type 0} (f : A → Bool) where
   have-all [] h = refl
   have-all (y ∷ ys) h = rw (h y in-first, all) (have-all ys (λ x k. h x (List·Memᴰ·tail k)))
 
+  pub all-append : (k l : List A) → all f k ≡ true → all f l ≡ true → all f (k ++ l) ≡ true
+  unfolding all
+  all-append [] l h g = g
+  all-append (x ∷ k) l h g = go (f x) refl (all-append k l)
+    where
+      go : (b : Bool) → f x ≡ b → (all f k ≡ true → all f l ≡ true → all f (k ++ l) ≡ true) → all f (x ∷ k ++ l) ≡ true
+      go true e ih = rw (e, all) (ih (rw (e, all) at h) g)
+      go false e ih = absurd (false≢true (rw (e, all) at h))
+
   pub keep-has : (l : List A) (x : A) → List·Memᴰ x (keep f l) → List·Memᴰ x l × (f x ≡ true)
   unfolding keep
   keep-has (y ∷ ys) x k = go (f y) refl (keep-has ys x)
@@ -201,6 +210,11 @@ has-each {l = z ∷ l} f (List·Memᴰ·tail m) k = Memᴰ·append-right (f z) (
 pub each-length : {A B : Type 0} (x : A) (l : List A) (f : A → List B) → length (each (x ∷ l) f) ≡ length (f x) + length (each l f)
 unfolding each
 each-length x l f = length-append (f x) (each l f)
+
+pub each-append : {A B : Type 0} (xs ys : List A) (f : A → List B) → each (xs ++ ys) f ≡ each xs f ++ each ys f
+unfolding each
+each-append [] ys f = refl
+each-append (x ∷ xs) ys f = ap (λ (l : List _). f x ++ l) (each-append xs ys f) ∙ sym (append-assoc (f x) (each xs f) (each ys f))
 
 pub each-elim : {A B P : Type 0} (l : List A) (f : A → List B) {y : B} → List·Memᴰ y (each l f) → ((x : A) → List·Memᴰ x l → List·Memᴰ y (f x) → P) → P
 each-elim l f m g = let s = each-has l f m in g (s .from-it) (s .listed) (s .gives)

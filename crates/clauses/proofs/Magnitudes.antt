@@ -13,7 +13,7 @@ use lib.Dec.{eqb, leb}
 use lib.IntN.{ℤ, natAbs}
 use lib.ListN.{length, getD}
 use Rattle.clauses.specs.Bytes.{nought, isDigit, every, front}
-use Rattle.clauses.specs.Number.{value, isPositive, isZero, signed, number}
+use Rattle.clauses.specs.Number.{value, isPositive, isZero, signed, unsigned, number}
 use Rattle.clauses.specs.Scanning.{isInWord, numberAt}
 use Rattle.clauses.specs.declared.text.Cursor.{Cursor}
 use Rattle.clauses.specs.declared.number.Number.the-variants as N
@@ -42,6 +42,17 @@ positive-small w e =
     let sizes = and-eq-true-iff (leb 1 (length w)) (leb (length w) 9 && not (eqb (getD w 0 0) nought)) .0 (parts .1) in
     value-small w (parts .0) (leb-true _ _ (and-eq-true-iff (leb (length w) 9) (not (eqb (getD w 0 0) nought)) .0 (sizes .1) .0))
 
+unsigned-value-small : (w : List ℕ) → (isZero w || isPositive w) ≡ true → value 0 w < 1000000000
+unsigned-value-small w h = cases (isZero w) (λ t. omega (arith, zero-value w t)) (λ t. positive-small w (rw t at h))
+
+-- a number that carries no minus
+pub unsigned-small : (w : List ℕ) (n : ℕ) → unsigned w ≡ some n → n < 1000000000
+unfolding unsigned
+unsigned-small w n e = cases (isZero w || isPositive w) (λ t. read t) (λ t. let z = rw t at e in let q : _≡_ {A = ℕ} 0 1 = cc in absurd (omega arith))
+  where
+    read : (isZero w || isPositive w) ≡ true → n < 1000000000
+    read t = let z = rw t at e in let same : value 0 w ≡ n = cc in rw (← same) (unsigned-value-small w t)
+
 -- the magnitude of a word
 small-of : (b : Bool) (minus : Bool) (n : ℕ) (z : ℤ) → (b ≡ true → n < 1000000000) → cond b (some (signed minus n)) none ≡ some z → natAbs z < 1000000000
 small-of true minus n z h e = let s : signed minus n ≡ z = cc in rw (← s) (sign minus n (h refl))
@@ -58,10 +69,7 @@ number-small [] z e = let q : _≡_ {A = ℕ} 0 1 = cc in absurd (omega arith)
 number-small (b ∷ w) z e =
     cases (eqb b 45)
     (λ t. small-of (isPositive w) true (value 0 w) z (positive-small w) (rw t at e))
-    (λ t. small-of (isZero (b ∷ w) || isPositive (b ∷ w)) false (value 0 (b ∷ w)) z unsigned-small (rw t at e))
-  where
-    unsigned-small : (isZero (b ∷ w) || isPositive (b ∷ w)) ≡ true → value 0 (b ∷ w) < 1000000000
-    unsigned-small h = cases (isZero (b ∷ w)) (λ t. omega (arith, zero-value (b ∷ w) t)) (λ t. positive-small (b ∷ w) (rw t at h))
+    (λ t. small-of (isZero (b ∷ w) || isPositive (b ∷ w)) false (value 0 (b ∷ w)) z (unsigned-value-small (b ∷ w)) (rw t at e))
 
 -- the magnitude that is read at a place
 pub magnitude-small : (l : List ℕ) (p : ℕ) (minus : Bool) (m : ℕ) (next : Cursor) → numberAt l p ≡ N.Value minus m next → m < 1000000000

@@ -10,7 +10,7 @@ use Rattle.clauses.specs.Number.{decimal, field}
 use Rattle.clauses.specs.Refusal.{numberOf, placeOf, refusalNames, refusalText}
 use Rattle.clauses.specs.Writing.{Wrote}
 use Rattle.clauses.specs.declared.refusal.Refusal.{Refusal}
-use Rattle.clauses.specs.declared.refusal.Refusal.the-variants.{TextTooLong, Header, Word, RowTooShort, TooManyNets, TooManyClauses, TooManyEntries, LeadsTooShort, WorkTooShort, EntryTooLarge, NotEnded, ClauseCount, BufferTooShort, TooManyRounds}
+use Rattle.clauses.specs.declared.refusal.Refusal.the-variants.{TextTooLong, Header, Word, RowTooShort, TooManyNets, TooManyClauses, TooManyEntries, LeadsTooShort, WorkTooShort, EntryTooLarge, NotEnded, ClauseCount, BufferTooShort, TooManyRounds, AigerHeader, LatchesOrOutputs, AigerLine, AndOutput}
 use Rattle.clauses.proofs.Decimals.{decimal-length}
 use Rattle.clauses.proofs.Numerals.{decimal-numeral}
 use Rattle.clauses.proofs.Writes.{wrote-then, wrote-start}
@@ -30,6 +30,10 @@ number-small NotEnded = omega arith
 number-small ClauseCount = omega arith
 number-small BufferTooShort = omega arith
 number-small TooManyRounds = omega arith
+number-small AigerHeader = omega arith
+number-small (LatchesOrOutputs p) = omega arith
+number-small (AigerLine p) = omega arith
+number-small (AndOutput p) = omega arith
 
 pub number-length : (r : Refusal) (end : ℕ) → length (field (numberOf r) end) ≤ 3
 number-length r end =

@@ -60,7 +60,7 @@ module _ (z : ℤ) where
 
 module _ (v : ℕ) where
   -- more entries
-  tally-append : (rest row : List ℤ) → tallied v (tallyOf v row) (map natAbs rest) ≡ tallyOf v (row ++ rest)
+  pub tally-append : (rest row : List ℤ) → tallied v (tallyOf v row) (map natAbs rest) ≡ tallyOf v (row ++ rest)
   unfolding tallied
   tally-append [] row = rw append-nil
   tally-append (z ∷ rest) row =

@@ -9,7 +9,7 @@ use lib.ListN.{length, set, drop, length-append}
 use lib.Seq.{sets, sets-eq}
 use Rattle.clauses.specs.Writing.{Wrote}
 
-pub sets-append : (l : List ℕ) (i : ℕ) (xs ys : List ℕ) → sets l i (xs ++ ys) ≡ sets (sets l i xs) (i + length xs) ys
+pub sets-append : {A : Type 0} (l : List A) (i : ℕ) (xs ys : List A) → sets l i (xs ++ ys) ≡ sets (sets l i xs) (i + length xs) ys
 sets-append l i [] ys = rw add-zero
 sets-append l i (x ∷ xs) ys =
     sets-append (set l i x) (suc i) xs ys

@@ -4,6 +4,7 @@ pub mod Code
 pub mod Lists
 pub mod Clause
 pub mod Listing
+pub mod Assignment
 pub mod Renaming
 pub mod Walk
 -- What is turned away

@@ -1,4 +1,4 @@
--- 'Turned away at the desk': the number and the place of each refusal, and the tests in document 01's order.
+-- 'Turned away at the desk': the number and the place of each refusal, document 02's too, and the tests in document 01's order.
 -- Assumes nothing.
 use mathlib.Core.Bool.{Bool, true, cond, not, _||_}
 use mathlib.Core.List.{List, [], _∷_, _++_, map}
@@ -10,7 +10,7 @@ use Rattle.clauses.specs.Bytes.{comma, lf}
 use Rattle.clauses.specs.Number.{field}
 use Rattle.clauses.specs.Limit.{maxText, maxNets, maxClauses, maxEntries}
 use Rattle.clauses.specs.declared.refusal.Refusal.{Refusal}
-use Rattle.clauses.specs.declared.refusal.Refusal.the-variants.{TextTooLong, Header, Word, RowTooShort, TooManyNets, TooManyClauses, TooManyEntries, LeadsTooShort, WorkTooShort, EntryTooLarge, NotEnded, ClauseCount, BufferTooShort, TooManyRounds}
+use Rattle.clauses.specs.declared.refusal.Refusal.the-variants.{TextTooLong, Header, Word, RowTooShort, TooManyNets, TooManyClauses, TooManyEntries, LeadsTooShort, WorkTooShort, EntryTooLarge, NotEnded, ClauseCount, BufferTooShort, TooManyRounds, AigerHeader, LatchesOrOutputs, AigerLine, AndOutput}
 
 abbrev pub numberOf : Refusal → ℕ
 numberOf TextTooLong = 1
@@ -27,6 +27,10 @@ numberOf NotEnded = 11
 numberOf ClauseCount = 12
 numberOf BufferTooShort = 13
 numberOf TooManyRounds = 14
+numberOf AigerHeader = 15
+numberOf (LatchesOrOutputs p) = 16
+numberOf (AigerLine p) = 17
+numberOf (AndOutput p) = 18
 
 -- 'The place is 0 unless stated.'
 abbrev pub placeOf : Refusal → ℕ
@@ -44,6 +48,10 @@ placeOf NotEnded = 0
 placeOf ClauseCount = 0
 placeOf BufferTooShort = 0
 placeOf TooManyRounds = 0
+placeOf AigerHeader = 0
+placeOf (LatchesOrOutputs p) = p
+placeOf (AigerLine p) = p
+placeOf (AndOutput p) = p
 
 -- a test: whether it holds, and the refusal that it then gives
 pub record Test : Type 0 where

@@ -29,7 +29,7 @@ pub enum PartEnd {
 }
 
 // The place behind a word, if the line goes on with it.
-fn word_end(line: &[u8], at: usize, word: &[u8]) -> PartEnd
+pub fn word_end(line: &[u8], at: usize, word: &[u8]) -> PartEnd
     requires { ⌜ at ≤ length (now line) ⌝ }
     ensures { λ r. ⌜ Reaches (now (line .entry)) (after (now (word .entry)) (drop at (now (line .entry)))) r ⌝ }
 {

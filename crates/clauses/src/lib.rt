@@ -3,9 +3,9 @@
 mod body;
 pub mod checks;
 pub mod entry;
-mod header;
+pub mod header;
 pub mod limits;
-mod number;
+pub mod number;
 pub mod printing;
 pub mod reading;
 pub mod refusal;

@@ -34,8 +34,8 @@ pub enum Reading {
     Refused(Refusal),
 }
 
-// Tests 4 to 7 and 10 to 12, of numbers whose tally is t and which kept holds; and the numbers to the row.
-fn read_numbers(kept: &[i32], v: u32, c: u32, t: EntryTally, row: &mut [i32]) -> Reading
+// Tests 4 to 7 and 10 to 12, of numbers whose tally is t and which kept holds; and the numbers to the row. AIGER text is read so too.
+pub fn read_numbers(kept: &[i32], v: u32, c: u32, t: EntryTally, row: &mut [i32]) -> Reading
     requires { ⌜ maxEntries ≤ length (now kept) ⌝ }
     ensures { λ r. ⌜ ((numbers : List ℤ) → Keeps (now (kept .entry)) numbers → t ≡ tallyOf v numbers
         → record { result = r; row = now (row .exit) } ≡ readNumbers (now (row .entry)) (record { nets = v; clauses = c }) numbers) ⌝ }

@@ -1,4 +1,4 @@
-// What is turned away: document 01's refusals, each with its number and place.
+// What is turned away: the refusals of documents 01 and 02, each with its number and place.
 
 ghost use mathlib.Core.Path.{_≡_};
 ghost use mathlib.Core.List.{_++_};
@@ -25,6 +25,10 @@ pub enum Refusal {
     ClauseCount,
     BufferTooShort,
     TooManyRounds,
+    AigerHeader,
+    LatchesOrOutputs(usize),
+    AigerLine(usize),
+    AndOutput(usize),
 }
 
 // The number of a refusal.
@@ -46,6 +50,10 @@ pub fn number(r: Refusal) -> u32
         Refusal::ClauseCount => 12,
         Refusal::BufferTooShort => 13,
         Refusal::TooManyRounds => 14,
+        Refusal::AigerHeader => 15,
+        Refusal::LatchesOrOutputs(_) => 16,
+        Refusal::AigerLine(_) => 17,
+        Refusal::AndOutput(_) => 18,
     }
 }
 
@@ -68,6 +76,10 @@ pub fn place(r: Refusal) -> usize
         Refusal::ClauseCount => 0,
         Refusal::BufferTooShort => 0,
         Refusal::TooManyRounds => 0,
+        Refusal::AigerHeader => 0,
+        Refusal::LatchesOrOutputs(p) => p,
+        Refusal::AigerLine(p) => p,
+        Refusal::AndOutput(p) => p,
     }
 }
 

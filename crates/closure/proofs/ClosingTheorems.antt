@@ -26,7 +26,7 @@ use Rattle.closure.specs.declared.close.Closing.the-variants.{Accepted, 
 use Rattle.rules.specs.Grouping.{After}
 use Rattle.rules.specs.Ending.{Allows}
 use Rattle.rules.specs.Answer.{Answer, Leads, on-contradiction, otherwise, noLead, IsAnswer, Joined}
-use Rattle.rules.specs.Assignment.{Assignment, Satisfies}
+use Rattle.clauses.specs.Assignment.{Assignment, Satisfies}
 use Rattle.rules.specs.Renaming.{Renamed}
 use Rattle.rules.specs.Monotone.{Monotone}
 use Rattle.rules.specs.Design.{Gate}

@@ -24,7 +24,7 @@ use Rattle.gates.specs.Count.{andCount, netsOf, xors, xorCount, isPlain, iteCou
 use Rattle.gates.proofs.Signs.{isInverse-negate}
 use Rattle.gates.proofs.ItesListed.{nets-apart}
 use Rattle.rules.specs.Answer.{Answer, leadOf, own}
-use Rattle.rules.specs.Assignment.{Assignment, Satisfies}
+use Rattle.clauses.specs.Assignment.{Assignment, Satisfies}
 use Rattle.rules.specs.Compute.{parities, byClause, byAnd, covers, byAnds, byXor, byXors, byIte, byItes, gatesOf, aloneAndPaired, conclusions, replace, joinLeads, joinAll, sameLead, round, run, closed, tally, answer}
 use Rattle.rules.specs.Design.{Gate, and, xor, encoding, ProperPins, HoldsGate}
 use Rattle.rules.specs.Copy.{EqualsCopy, driven, Copied, by-xor, Miter, asserted}

@@ -12,7 +12,7 @@ use Rattle.clauses.proofs.Lists.{in-first, in-second, in-third, mem-map, mem-of
 use Rattle.gates.specs.Sign.{plus, parity}
 use Rattle.gates.specs.Listing.{signings}
 use Rattle.gates.proofs.Signs.{plus-self}
-use Rattle.rules.specs.Assignment.{Assignment, True, Satisfies}
+use Rattle.clauses.specs.Assignment.{Assignment, True, Satisfies}
 use Rattle.rules.specs.Design.{Gate, and, xor, ite, output, computes, encoding}
 
 -- an element that fails the test

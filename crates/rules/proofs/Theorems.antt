@@ -17,7 +17,7 @@ use Rattle.rules.specs.Grouping.{After}
 use Rattle.rules.specs.Ending.{Allows}
 use Rattle.rules.specs.Answer.{Answer, IsAnswer, Joined}
 use Rattle.rules.specs.Compute.{closed, tally, answer}
-use Rattle.rules.specs.Assignment.{Assignment, Satisfies}
+use Rattle.clauses.specs.Assignment.{Assignment, Satisfies}
 use Rattle.rules.specs.Renaming.{Renamed}
 use Rattle.rules.specs.Monotone.{Monotone}
 use Rattle.rules.specs.Design.{Gate}

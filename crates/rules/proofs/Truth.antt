@@ -23,7 +23,7 @@ use Rattle.rules.specs.Grouping.{Closure, Nothing, Next, After}
 use Rattle.rules.specs.Ending.{Clash}
 use Rattle.rules.specs.Answer.{leadOf}
 use Rattle.rules.specs.Compute.{Closed}
-use Rattle.rules.specs.Assignment.{Assignment, True, Satisfies}
+use Rattle.clauses.specs.Assignment.{Assignment, True, Satisfies}
 use Rattle.rules.proofs.Endings.{ends-clash}
 use Rattle.rules.proofs.Encodings.{rest-true, only-true, inverse-is, equal-says, xor-says, ite-says}
 use Rattle.rules.proofs.Closing.{Ran, with-row, with-none, entry}

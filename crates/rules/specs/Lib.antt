@@ -3,7 +3,6 @@ pub mod Grouping
 pub mod Ending
 pub mod Answer
 pub mod Compute
-pub mod Assignment
 pub mod Renaming
 pub mod Monotone
 pub mod Design
