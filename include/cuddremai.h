@@ -7,7 +7,8 @@
  * The caller owes what C cannot say: no pointer is NULL, also where its length is 0; each points to as many elements as its
  * length says, aligned; and nothing that a function may write overlaps anything else that is lent to the same call.
  *
- * No function keeps state, so calls in several threads need no lock. Closing and the sheet need 1.5 MB of stack: give a thread 2 MB. */
+ * No function keeps state, so calls in several threads need no lock. Closing and the sheet need 1.5 MB of stack, and from an AIGER text
+ * to its sheet it is 1.75 MB: give a thread 2 MB. */
 
 #ifndef CUDDREMAI_H
 #define CUDDREMAI_H
@@ -23,8 +24,9 @@ extern "C" {
 #define CUDDREMAI_MAX_CLAUSES 4096
 #define CUDDREMAI_MAX_ENTRIES 16384
 #define CUDDREMAI_MAX_TEXT 65536
-/* A literal row with so many entries holds the numbers of any text. */
+/* A literal row with so many entries holds the numbers of any DIMACS text, and one with so many those that any AIGER text makes. */
 #define CUDDREMAI_ROW 32763
+#define CUDDREMAI_AIGER_ROW 109222
 /* Entries that the work row must have, and bytes that the buffer of a sheet must have. */
 #define CUDDREMAI_WORK 16384
 #define CUDDREMAI_SHEET 16384
@@ -44,6 +46,10 @@ extern "C" {
 #define CUDDREMAI_CLAUSE_COUNT 12
 #define CUDDREMAI_BUFFER_TOO_SHORT 13
 #define CUDDREMAI_TOO_MANY_ROUNDS 14
+#define CUDDREMAI_AIGER_HEADER 15
+#define CUDDREMAI_LATCHES_OR_OUTPUTS 16
+#define CUDDREMAI_AIGER_LINE 17
+#define CUDDREMAI_AND_OUTPUT 18
 
 /* Verdicts. */
 #define CUDDREMAI_CONTRADICTION 1
@@ -66,6 +72,11 @@ typedef struct {
 uint32_t cuddremai_read(const uint8_t *text, size_t text_length, int32_t *row, size_t row_length, uint32_t *nets,
                         uint32_t *clauses, size_t *entries, size_t *place);
 
+/* Reads an ASCII AIGER text (docs/FORMATS.md): the entries of its circuit's clauses to the start of the literal row; V, which is M, C and
+ * how many entries there are. */
+uint32_t cuddremai_read_aiger(const uint8_t *text, size_t text_length, int32_t *row, size_t row_length, uint32_t *nets,
+                              uint32_t *clauses, size_t *entries, size_t *place);
+
 /* Writes the list's DIMACS text at the buffer's start; how many bytes it has. */
 uint32_t cuddremai_print(uint32_t nets, uint32_t clauses, const int32_t *row, size_t row_length, uint8_t *text,
                          size_t text_length, size_t *written, size_t *place);
@@ -84,6 +95,10 @@ uint32_t cuddremai_sheet(uint32_t nets, uint32_t clauses, const int32_t *row, si
 /* From a DIMACS text to its sheet under round limit V + 1, with rows of its own. */
 uint32_t cuddremai_compare(const uint8_t *input, size_t input_length, uint8_t *text, size_t text_length, size_t *written,
                            size_t *place);
+
+/* From an ASCII AIGER text to its sheet, likewise. */
+uint32_t cuddremai_compare_aiger(const uint8_t *input, size_t input_length, uint8_t *text, size_t text_length,
+                                 size_t *written, size_t *place);
 
 #ifdef __cplusplus
 }

@@ -1,4 +1,4 @@
-/* Reads DIMACS text from standard input and prints its sheet, step by step: read, close and write.
+/* Reads DIMACS or AIGER text from standard input and prints its sheet, step by step: read, close and write.
  *
  *     rt staticlib cuddremai_c
  *     cc -Iinclude examples/c/sheet.c target/staticlib/libcuddremai_c.a -o target/sheet
@@ -7,13 +7,20 @@
 
 #include <cuddremai.h>
 #include <stdio.h>
+#include <string.h>
 
 /* One byte more than a text may have, so that a longer one is refused and not cut short. */
 static uint8_t input[CUDDREMAI_MAX_TEXT + 1];
-static int32_t row[CUDDREMAI_ROW];
+/* Long enough for both kinds of text. */
+static int32_t row[CUDDREMAI_AIGER_ROW];
 static uint32_t leads[CUDDREMAI_MAX_NETS];
 static uint32_t work[CUDDREMAI_WORK];
 static uint8_t text[CUDDREMAI_SHEET];
+
+static int is_aiger(size_t length)
+{
+    return length >= 4 && memcmp(input, "aag ", 4) == 0;
+}
 
 static int refuse(uint32_t number, size_t place)
 {
@@ -27,7 +34,10 @@ int main(void)
     size_t entries, written, place;
     size_t length = fread(input, 1, sizeof input, stdin);
 
-    number = cuddremai_read(input, length, row, CUDDREMAI_ROW, &nets, &clauses, &entries, &place);
+    if (is_aiger(length))
+        number = cuddremai_read_aiger(input, length, row, CUDDREMAI_AIGER_ROW, &nets, &clauses, &entries, &place);
+    else
+        number = cuddremai_read(input, length, row, CUDDREMAI_AIGER_ROW, &nets, &clauses, &entries, &place);
     if (number != 0)
         return refuse(number, place);
     number = cuddremai_sheet(nets, clauses, row, entries, nets + 1, leads, CUDDREMAI_MAX_NETS, work, CUDDREMAI_WORK, text,

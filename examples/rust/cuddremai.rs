@@ -7,6 +7,10 @@ mod c {
             text: *const u8, text_length: usize, row: *mut i32, row_length: usize, nets: *mut u32, clauses: *mut u32,
             entries: *mut usize, place: *mut usize,
         ) -> u32;
+        pub fn cuddremai_read_aiger(
+            text: *const u8, text_length: usize, row: *mut i32, row_length: usize, nets: *mut u32, clauses: *mut u32,
+            entries: *mut usize, place: *mut usize,
+        ) -> u32;
         pub fn cuddremai_print(
             nets: u32, clauses: u32, row: *const i32, row_length: usize, text: *mut u8, text_length: usize,
             written: *mut usize, place: *mut usize,
@@ -22,11 +26,16 @@ mod c {
         pub fn cuddremai_compare(
             input: *const u8, input_length: usize, text: *mut u8, text_length: usize, written: *mut usize, place: *mut usize,
         ) -> u32;
+        pub fn cuddremai_compare_aiger(
+            input: *const u8, input_length: usize, text: *mut u8, text_length: usize, written: *mut usize, place: *mut usize,
+        ) -> u32;
     }
 }
 
-/// Entries of a literal row that holds the numbers of any text.
+/// Entries of a literal row that holds the numbers of any DIMACS text.
 pub const ROW: usize = 32_763;
+/// Entries of a literal row that holds those that any AIGER text makes.
+pub const AIGER_ROW: usize = 109_222;
 /// Entries that the work row must have.
 pub const WORK: usize = 16_384;
 /// Bytes that the buffer of a sheet must have.
@@ -83,6 +92,18 @@ pub fn read(text: &[u8], row: &mut [i32]) -> Result<ListSize, Refusal> {
     // SAFETY: slices are valid for their lengths, and exclusive where they are written; so are the locals.
     let number = unsafe {
         c::cuddremai_read(
+            text.as_ptr(), text.len(), row.as_mut_ptr(), row.len(), &mut nets, &mut clauses, &mut entries, &mut place,
+        )
+    };
+    answer(number, place, ListSize { nets, clauses, entries })
+}
+
+/// Reads an ASCII AIGER text: the entries of its circuit's clauses go to the start of the row. V is M.
+pub fn read_aiger(text: &[u8], row: &mut [i32]) -> Result<ListSize, Refusal> {
+    let (mut nets, mut clauses, mut entries, mut place) = (0, 0, 0, 0);
+    // SAFETY: as in `read`.
+    let number = unsafe {
+        c::cuddremai_read_aiger(
             text.as_ptr(), text.len(), row.as_mut_ptr(), row.len(), &mut nets, &mut clauses, &mut entries, &mut place,
         )
     };
@@ -153,6 +174,18 @@ pub fn compare(input: &[u8], text: &mut [u8]) -> Result<usize, Refusal> {
     // SAFETY: as in `read`.
     let number = unsafe {
         c::cuddremai_compare(
+            input.as_ptr(), input.len(), text.as_mut_ptr(), text.len(), &mut written, &mut place,
+        )
+    };
+    answer(number, place, written)
+}
+
+/// From an ASCII AIGER text to its sheet, likewise.
+pub fn compare_aiger(input: &[u8], text: &mut [u8]) -> Result<usize, Refusal> {
+    let (mut written, mut place) = (0, 0);
+    // SAFETY: as in `read`.
+    let number = unsafe {
+        c::cuddremai_compare_aiger(
             input.as_ptr(), input.len(), text.as_mut_ptr(), text.len(), &mut written, &mut place,
         )
     };

@@ -3,10 +3,11 @@
 
 ghost use mathlib.Core.Path.{_≡_};
 ghost use Rattle.clauses.specs.Reading.{reading};
+ghost use Rattle.aiger.specs.Reading as Aiger;
 ghost use Rattle.clauses.specs.Printing.{printing};
 ghost use Rattle.closure.specs.Closing.{closing};
 ghost use Rattle.sheet.specs.Writing.{writing};
-ghost use Rattle.sheet.specs.Comparing.{comparing};
+ghost use Rattle.sheet.specs.Comparing.{comparing, comparingAiger};
 ghost use Rattle.cuddremai_c.specs.Calling.{verdictNumber, readCall, printCall, closeCall, sheetCall};
 use clauses::printing::Printing;
 use clauses::printing::print;
@@ -17,6 +18,7 @@ use closure::close::Closing;
 use closure::close::close;
 use rules::Verdict;
 use sheet::compare::compare;
+use sheet::compare::compare_aiger;
 use sheet::write::Writing;
 use sheet::write::write;
 
@@ -28,6 +30,49 @@ fn verdict_number(verdict: Verdict) -> u32
         Verdict::Contradiction => 1,
         Verdict::Settled => 2,
         Verdict::Unfinished => 3,
+    }
+}
+
+// Hands over what reading answers: V, C and the number of entries.
+fn hand_list(
+    list: Reading,
+    nets: &mut u32,
+    clauses: &mut u32,
+    entries: &mut usize,
+    place: &mut usize,
+) -> u32
+    ensures { λ r. ⌜ record { number = r; place = now (place .exit); values = record { nets = now (nets .exit); clauses = now (clauses .exit); entries = now (entries .exit) } }
+        ≡ readCall list (record { nets = now (nets .entry); clauses = now (clauses .entry); entries = now (entries .entry) }) ⌝ }
+{
+    match list {
+        Reading::Refused(r) => {
+            *place = clauses::refusal::place(r);
+            number(r)
+        }
+        Reading::Accepted(s) => {
+            *nets = s.nets;
+            *clauses = s.clauses;
+            *entries = s.entries;
+            *place = 0;
+            0
+        }
+    }
+}
+
+// Hands over what writing a sheet answers: the number of bytes.
+fn hand_sheet(sheet: Writing, written: &mut usize, place: &mut usize) -> u32
+    ensures { λ r. ⌜ record { number = r; place = now (place .exit); values = now (written .exit) } ≡ sheetCall sheet (now (written .entry)) ⌝ }
+{
+    match sheet {
+        Writing::Refused(r) => {
+            *place = clauses::refusal::place(r);
+            number(r)
+        }
+        Writing::Written(n) => {
+            *written = n;
+            *place = 0;
+            0
+        }
     }
 }
 
@@ -45,19 +90,26 @@ pub extern "C" fn cuddremai_read(
         ≡ readCall (reading (now (text .entry)) (now (row .entry)) .result) (record { nets = now (nets .entry); clauses = now (clauses .entry); entries = now (entries .entry) }) ⌝ }
     ensures row { λ _. ⌜ now (row .exit) ≡ reading (now (text .entry)) (now (row .entry)) .row ⌝ }
 {
-    match read(text, row) {
-        Reading::Refused(r) => {
-            *place = clauses::refusal::place(r);
-            number(r)
-        }
-        Reading::Accepted(s) => {
-            *nets = s.nets;
-            *clauses = s.clauses;
-            *entries = s.entries;
-            *place = 0;
-            0
-        }
-    }
+    let list = read(text, row);
+    hand_list(list, nets, clauses, entries, place)
+}
+
+// Reads an AIGER text and makes the clauses of its circuit into a literal row; V, C and the number of entries.
+#[no_mangle]
+pub extern "C" fn cuddremai_read_aiger(
+    text: &[u8],
+    row: &mut [i32],
+    nets: &mut u32,
+    clauses: &mut u32,
+    entries: &mut usize,
+    place: &mut usize,
+) -> u32
+    ensures answer { λ r. ⌜ record { number = r; place = now (place .exit); values = record { nets = now (nets .exit); clauses = now (clauses .exit); entries = now (entries .exit) } }
+        ≡ readCall (Aiger.reading (now (text .entry)) (now (row .entry)) .result) (record { nets = now (nets .entry); clauses = now (clauses .entry); entries = now (entries .entry) }) ⌝ }
+    ensures row { λ _. ⌜ now (row .exit) ≡ Aiger.reading (now (text .entry)) (now (row .entry)) .row ⌝ }
+{
+    let list = aiger::reading::read(text, row);
+    hand_list(list, nets, clauses, entries, place)
 }
 
 // Prints a clause list as DIMACS text; the number of bytes.
@@ -144,17 +196,8 @@ pub extern "C" fn cuddremai_sheet(
     ensures work { λ _. ⌜ now (work .exit) ≡ writing nets clauses (now (row .entry)) limit (now (leads .entry)) (now (work .entry)) (now (text .entry)) .work ⌝ }
     ensures text { λ _. ⌜ now (text .exit) ≡ writing nets clauses (now (row .entry)) limit (now (leads .entry)) (now (work .entry)) (now (text .entry)) .text ⌝ }
 {
-    match write(nets, clauses, row, limit, leads, work, text) {
-        Writing::Refused(r) => {
-            *place = clauses::refusal::place(r);
-            number(r)
-        }
-        Writing::Written(n) => {
-            *written = n;
-            *place = 0;
-            0
-        }
-    }
+    let sheet = write(nets, clauses, row, limit, leads, work, text);
+    hand_sheet(sheet, written, place)
 }
 
 // From a DIMACS text to its sheet, under round limit V + 1; the number of bytes.
@@ -169,15 +212,22 @@ pub extern "C" fn cuddremai_compare(
         ≡ sheetCall (comparing (now (input .entry)) (now (text .entry)) .result) (now (written .entry)) ⌝ }
     ensures text { λ _. ⌜ now (text .exit) ≡ comparing (now (input .entry)) (now (text .entry)) .text ⌝ }
 {
-    match compare(input, text) {
-        Writing::Refused(r) => {
-            *place = clauses::refusal::place(r);
-            number(r)
-        }
-        Writing::Written(n) => {
-            *written = n;
-            *place = 0;
-            0
-        }
-    }
+    let sheet = compare(input, text);
+    hand_sheet(sheet, written, place)
+}
+
+// From an AIGER text to its sheet, under round limit V + 1; the number of bytes.
+#[no_mangle]
+pub extern "C" fn cuddremai_compare_aiger(
+    input: &[u8],
+    text: &mut [u8],
+    written: &mut usize,
+    place: &mut usize,
+) -> u32
+    ensures answer { λ r. ⌜ record { number = r; place = now (place .exit); values = now (written .exit) }
+        ≡ sheetCall (comparingAiger (now (input .entry)) (now (text .entry)) .result) (now (written .entry)) ⌝ }
+    ensures text { λ _. ⌜ now (text .exit) ≡ comparingAiger (now (input .entry)) (now (text .entry)) .text ⌝ }
+{
+    let sheet = compare_aiger(input, text);
+    hand_sheet(sheet, written, place)
 }

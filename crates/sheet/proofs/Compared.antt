@@ -1,13 +1,12 @@
--- What `compare` answers, by what reading and writing answer; and that what it counts lies within the buffer.
+-- What a comparison answers, by what reading and writing answer; and that what it counts lies within the buffer.
 -- Assumes nothing.
-use mathlib.Core.Path.{_≡_, sym, _∙_, ap}
+use mathlib.Core.Path.{_≡_, ap}
 use mathlib.Core.List.{List, _++_}
 use Prim.Native.Nat.{ℕ, _+_, _≤_}
 use native.Mathlib.Omega.{arith}
 use lib.IntN.{ℤ}
 use lib.ListN.{length, take, drop, replicate, length-append}
 use Rattle.clauses.specs.Clause.{clausesOf}
-use Rattle.clauses.specs.Reading.{reading}
 use Rattle.clauses.specs.declared.refusal.Refusal.{Refusal}
 use Rattle.clauses.specs.declared.reading.ListSize.{ListSize}
 use Rattle.clauses.specs.declared.reading.Reading.{Reading}
@@ -21,20 +20,19 @@ use Rattle.sheet.specs.declared.write.Writing.{Writing}
 use Rattle.sheet.specs.declared.write.Writing.the-variants.{Written, Refused}
 use Rattle.sheet.specs.Writing as Writing
 use Rattle.sheet.specs.Writing.{writingTests, writing}
-use Rattle.sheet.specs.Comparing.{Outcome, emptyRow, sheetOf, comparing}
+use Rattle.sheet.specs.Comparing.{sheetOf, comparing, comparingAiger}
 
-module _ (input text : List ℕ) (x : Reading) (e : x ≡ reading input emptyRow .result) where
-  pub compared-refused : (r : Refusal) → x ≡ R.Refused r → record { result = Refused r; text = text } ≡ comparing input text
-  unfolding comparing sheetOf
-  compared-refused r q = rw (sym e ∙ q)
+module _ (row : List ℤ) (text : List ℕ) (list : Reading) where
+  pub read-refused : (r : Refusal) → list ≡ R.Refused r → record { result = Refused r; text = text } ≡ sheetOf list row text
+  unfolding sheetOf
+  read-refused r e = rw e
 
-  pub compared-written : (row : List ℤ) → row ≡ reading input emptyRow .row → (s : ListSize) → x ≡ R.Accepted s → (y : Writing) (L W T : List ℕ)
+  pub read-written : (s : ListSize) → list ≡ R.Accepted s → (y : Writing) (L W T : List ℕ)
       → record { result = y; leads = L; work = W; text = T }
       ≡ writing (s .nets) (s .clauses) (take (s .entries) row) (s .nets + 1) (replicate 1024 0) (replicate maxWork 0) text
-      → record { result = y; text = T } ≡ comparing input text
-  unfolding comparing sheetOf
-  compared-written row r s q y L W T h =
-      ap (λ (o : Writing.Outcome). record { result = o .result; text = o .text }) h ∙ rw (sym e ∙ q, ← r)
+      → record { result = y; text = T } ≡ sheetOf list row text
+  unfolding sheetOf
+  read-written s e y L W T h = rw e (ap (λ (o : Writing.Outcome). record { result = o .result; text = o .text }) h)
 
 -- The bytes that are counted lie within the buffer
 
@@ -60,10 +58,16 @@ written-within v c row limit leads work text =
         let same : length (sheetText v a) ≡ n = cc in
         omega (arith, same, length-append (sheetText v a) (drop (length (sheetText v a)) text))
 
+sheet-within : (list : Reading) (row : List ℤ) (text : List ℕ) (n : ℕ) → sheetOf list row text .result ≡ Written n → n ≤ length (sheetOf list row text .text)
+unfolding sheetOf BytesWithin
+sheet-within (R.Refused r) row text = refused-within r text
+sheet-within (R.Accepted s) row text =
+    written-within (s .nets) (s .clauses) (take (s .entries) row) (s .nets + 1) (replicate 1024 0) (replicate maxWork 0) text
+
 pub compared-within : (input text : List ℕ) (n : ℕ) → comparing input text .result ≡ Written n → n ≤ length (comparing input text .text)
-unfolding comparing sheetOf BytesWithin
-compared-within input text = go (reading input emptyRow .result)
-  where
-    go : (x : Reading) → BytesWithin (sheetOf x (reading input emptyRow .row) text .result) (sheetOf x (reading input emptyRow .row) text .text)
-    go (R.Refused r) = refused-within r text
-    go (R.Accepted s) = written-within (s .nets) (s .clauses) (take (s .entries) (reading input emptyRow .row)) (s .nets + 1) (replicate 1024 0) (replicate maxWork 0) text
+unfolding comparing
+compared-within input text = sheet-within _ _ text
+
+pub compared-aiger-within : (input text : List ℕ) (n : ℕ) → comparingAiger input text .result ≡ Written n → n ≤ length (comparingAiger input text .text)
+unfolding comparingAiger
+compared-aiger-within input text = sheet-within _ _ text

@@ -1,4 +1,4 @@
--- What the program answers to a text: the sheet of its list under round limit V + 1.
+-- What the programs answer to a text: the sheet of its list under round limit V + 1.
 -- Assumes nothing.
 use mathlib.Core.List.{List}
 use Prim.Native.Nat.{ℕ, _+_}
@@ -7,6 +7,7 @@ use lib.ListN.{take, replicate}
 use Rattle.clauses.specs.declared.reading.Reading.{Reading}
 use Rattle.clauses.specs.declared.reading.Reading.the-variants as R
 use Rattle.clauses.specs.Reading.{reading}
+use Rattle.aiger.specs.Reading as Aiger
 use Rattle.closure.specs.Closing.{maxWork}
 use Rattle.sheet.specs.Writing.{writing}
 use Rattle.sheet.specs.declared.write.Writing.{Writing}
@@ -17,7 +18,7 @@ pub record Outcome : Type 0 where
   pub result : Writing
   pub text : List ℕ
 
--- a literal row with room for the numbers of any text of at most 65,536 bytes
+-- a literal row with room for the numbers of any DIMACS text of at most 65,536 bytes
 abbrev pub emptyRow : List ℤ
 emptyRow = replicate 32763 (pos 0)
 
@@ -30,3 +31,11 @@ sheetOf (R.Accepted s) row text =
 
 unfoldable pub comparing : List ℕ → List ℕ → Outcome
 comparing input text = sheetOf (reading input emptyRow .result) (reading input emptyRow .row) text
+
+-- a literal row with room for the entries that any AIGER text of at most 65,536 bytes makes
+abbrev pub emptyAigerRow : List ℤ
+emptyAigerRow = replicate 109222 (pos 0)
+
+-- 'a second program reads it from standard input and prints the sheet': an AIGER file
+unfoldable pub comparingAiger : List ℕ → List ℕ → Outcome
+comparingAiger input text = sheetOf (Aiger.reading input emptyAigerRow .result) (Aiger.reading input emptyAigerRow .row) text

@@ -1,3 +1,4 @@
 pub mod Sheet
 pub mod Writing
 pub mod Comparing
+pub mod CircuitSheet
