@@ -1,13 +1,14 @@
 # shellcheck shell=bash disable=SC2154
-# The program of this repository, for the scripts at its root: sourced, with `root` set to the repository's root and `me` to the
+# The programs of this repository, for the scripts at its root: sourced, with `root` set to the repository's root and `me` to the
 # script's name.
 
-program=$root/target/bin/cuddremai
-# Made when the program was last proved and built, with the time at which that began.
+# For DIMACS texts, and for AIGER texts.
+programs=(cuddremai cuddremai_aiger)
+# Made when the programs were last proved and built, with the time at which that began.
 stamp=$root/target/compare.stamp
-# All that rt said when it last proved the program.
+# All that rt said when it last proved the programs.
 log=$root/target/compare.log
-# While the program is proved: the process group that does it.
+# While the programs are proved: the process group that does it.
 prover=''
 
 say() { printf '%s: %s\n' "$me" "$1" >&2; }
@@ -17,11 +18,14 @@ trouble() {
     exit 2
 }
 
-# The crates of this repository that the program is made of, itself last.
+# The crates of this repository that the programs are made of, each once, themselves last.
 crates() {
-    local crate
-    for crate in $(sed -n 's/^cuddremai://p' "$root/crates.txt") cuddremai; do
-        [ ! -d "$root/crates/$crate" ] || printf '%s\n' "$crate"
+    local crate printed=' '
+    for crate in $(sed -En "s/^(${programs[0]}|${programs[1]})://p" "$root/crates.txt") "${programs[@]}"; do
+        if [ -d "$root/crates/$crate" ] && [[ $printed != *" $crate "* ]]; then
+            printf '%s\n' "$crate"
+            printed+="$crate "
+        fi
     done
 }
 
@@ -34,23 +38,30 @@ newer_source() {
     find "${sources[@]}" -newer "$stamp" -print0 -quit
 }
 
-# Whether the program is there and no older than its sources; if not, `why` says so.
+has_programs() {
+    local program
+    for program in "${programs[@]}"; do
+        [ -x "$root/target/bin/$program" ] || return 1
+    done
+}
+
+# Whether the programs are there and no older than their sources; if not, `why` says so.
 is_built() {
-    why='the program has not been proved and built'
-    [ -x "$program" ] && [ -e "$stamp" ] || return 1
+    why='the programs have not been proved and built'
+    has_programs && [ -e "$stamp" ] || return 1
     local newer
     IFS= read -r -d '' newer < <(newer_source)
-    why="the program is older than $newer"
+    why="the programs are older than $newer"
     [ -z "$newer" ]
 }
 
-# Proves and builds the program, unless that is done. One process at a time does it.
+# Proves and builds the programs, unless that is done. One process at a time does it.
 build() {
     is_built && return
     command -v rt >/dev/null || trouble "$why, and rt (the Rattle kit) is not on the path"
     { mkdir -p "$root/target" && exec 9>>"$root/target/compare.lock" && : >>"$log"; } || trouble "cannot write to $root/target"
     if ! flock -n 9; then
-        say 'another process proves and builds the program; waiting for it'
+        say 'another process proves and builds the programs; waiting for it'
         # Bash attends to signals between two commands.
         until flock -w 1 9; do :; done
     fi
@@ -58,18 +69,18 @@ build() {
     exec 9>&-
 }
 
-# Has rt prove and build the program, in a process group of its own so that all of it can be ended, and shows how far it is.
+# Has rt prove and build the programs, in a process group of its own so that all of it can be ended, and shows how far it is.
 prove() {
     local said
-    say 'proving and building the program; the first time this takes some minutes'
+    say 'proving and building the programs; the first time this takes some minutes'
     touch "$stamp.new"
-    exec {said}< <(cd "$root" && exec setsid rt check cuddremai 2>&1 </dev/null)
+    exec {said}< <(cd "$root" && exec setsid rt check "${programs[@]}" 2>&1 </dev/null)
     prover=$!
     follow "$said" >"$log"
     exec {said}<&-
-    if ! wait "$prover" || ! [ -x "$program" ]; then
+    if ! wait "$prover" || ! has_programs; then
         tail -n 20 "$log" >&2
-        trouble "the program could not be proved and built; all that rt said is in $log"
+        trouble "the programs could not be proved and built; all that rt said is in $log"
     fi
     prover=''
     mv "$stamp.new" "$stamp"
@@ -124,14 +135,27 @@ progress() {
     shown=$text
 }
 
-# Runs the program on its standard input: what it prints goes to `printed`. Answers 0 for a sheet, 1 for a refusal.
+# Runs the program for the text on standard input: what it prints goes to `printed`. Answers 0 for a sheet, 1 for a refusal.
 run() {
-    printed=$("$program" && printf .)
+    local first program=cuddremai kind
+    # The text's first four bytes as hex digits, ` 61 61 67 20`, since a variable holds no NUL.
+    first=$(set -o pipefail && head -c 4 | od -An -v -tx1) || trouble "the input cannot be read"
+    # The first word is `aag` or, of a binary file, `aig`: a blank or the text's end follows.
+    [[ ! $first =~ ^' 61 6'[19]' 67'(' 20'|' 09'|' 0a'|' 0d')?$ ]] || program=cuddremai_aiger
+    printed=$(set -o pipefail && input_from "$first" | "$root/target/bin/$program" && printf .)
     printed=${printed%.}
     judge "$printed"
-    local kind=$?
+    kind=$?
     [ $kind -ne 2 ] || trouble "the program printed neither a sheet nor a refusal"
     return $kind
+}
+
+# The input from its first bytes on, which have been read. A program takes 65,537 bytes at most, so no more are taken here.
+input_from() {
+    # shellcheck disable=SC2059
+    printf "${1// /\\x}"
+    # With fewer than four bytes the end has been met, which a terminal would have to be told once more.
+    [ ${#1} -lt 12 ] || head -c 65533
 }
 
 # Tells a whole sheet (0), a refusal (1) and any other text (2) apart. `outcome` is then the verdict, `refusal` with its number, or `none`.

@@ -27,7 +27,15 @@ static const char sheet_of_two_ands[] =
 
 enum { ENTRIES = 20 };
 
-static int32_t row[CUDDREMAI_ROW];
+/* Of n3 = n1 AND n2 and n4 = n3 AND true a clause is left out, and a literal is dropped; the output is the inverse of n4. */
+static const char circuit[] = "aag 4 2 0 1 2\n2\n4\n9\n6 2 4\n8 6 1\nc\n";
+static const int32_t entries_of_circuit[] = {-3, 1, 0, -3, 2, 0, 3, -1, -2, 0, -4, 3, 0, 4, -3, 0, -4, 0};
+static const char sheet_of_circuit[] =
+    "verdict,rounds,variables,ands,xors,ites,groups\nsettled,1,4,1,0,0,2\nnet,lead\n1,1\n2,2\n3,F\n4,F\n";
+
+enum { CIRCUIT_ENTRIES = 18 };
+
+static int32_t row[CUDDREMAI_AIGER_ROW];
 static uint32_t leads[CUDDREMAI_MAX_NETS];
 static uint32_t work[CUDDREMAI_WORK + 1];
 static uint8_t text[CUDDREMAI_SHEET];
@@ -69,6 +77,38 @@ static void reading(void)
     CHECK(place == 0);
     CHECK(cuddremai_read((const uint8_t *)"p cnf 1 1\n-0 0", 14, row, CUDDREMAI_ROW, &nets, &clauses, &entries, &place) == CUDDREMAI_WORD);
     CHECK(place == 10);
+    CHECK(nets == 7 && clauses == 7 && entries == 7 && is_fresh(row, 0, sizeof row));
+}
+
+static void reading_aiger(void)
+{
+    const uint8_t *input = (const uint8_t *)circuit;
+    uint32_t nets = 7, clauses = 7;
+    size_t entries = 7, place = 7;
+
+    fresh();
+    CHECK(cuddremai_read_aiger(input, strlen(circuit), row, CUDDREMAI_AIGER_ROW, &nets, &clauses, &entries, &place) == 0);
+    CHECK(nets == 4 && clauses == 6 && entries == CIRCUIT_ENTRIES && place == 0);
+    CHECK(memcmp(row, entries_of_circuit, sizeof entries_of_circuit) == 0);
+    CHECK(is_fresh(row, sizeof entries_of_circuit, sizeof row));
+
+    fresh();
+    nets = clauses = 7;
+    entries = place = 7;
+    CHECK(cuddremai_read_aiger(input, strlen(circuit), row, CIRCUIT_ENTRIES - 1, &nets, &clauses, &entries, &place) ==
+          CUDDREMAI_ROW_TOO_SHORT);
+    CHECK(place == 0);
+    CHECK(cuddremai_read_aiger((const uint8_t *)two_ands, strlen(two_ands), row, CUDDREMAI_AIGER_ROW, &nets, &clauses, &entries,
+                               &place) == CUDDREMAI_AIGER_HEADER);
+    CHECK(place == 0);
+    CHECK(cuddremai_read_aiger((const uint8_t *)"aag 1 1 0 2 0\n", 14, row, CUDDREMAI_AIGER_ROW, &nets, &clauses, &entries, &place) ==
+          CUDDREMAI_LATCHES_OR_OUTPUTS);
+    CHECK(place == 10);
+    CHECK(cuddremai_read_aiger(input, 14, row, CUDDREMAI_AIGER_ROW, &nets, &clauses, &entries, &place) == CUDDREMAI_AIGER_LINE);
+    CHECK(place == 14);
+    CHECK(cuddremai_read_aiger((const uint8_t *)"aag 2 1 0 1 1\n2\n2\n2 1 1\n", 24, row, CUDDREMAI_AIGER_ROW, &nets, &clauses,
+                               &entries, &place) == CUDDREMAI_AND_OUTPUT);
+    CHECK(place == 18);
     CHECK(nets == 7 && clauses == 7 && entries == 7 && is_fresh(row, 0, sizeof row));
 }
 
@@ -138,12 +178,29 @@ static void sheets(void)
     CHECK(written == length && memcmp(text, sheet_of_two_ands, length) == 0 && is_fresh(text, length, sizeof text));
 }
 
+static void sheets_of_circuits(void)
+{
+    const uint8_t *input = (const uint8_t *)circuit;
+    size_t length = strlen(sheet_of_circuit), written = 7, place = 7;
+
+    fresh();
+    CHECK(cuddremai_compare_aiger(input, 16, text, CUDDREMAI_SHEET, &written, &place) == CUDDREMAI_AIGER_LINE);
+    CHECK(place == 16);
+    CHECK(cuddremai_compare_aiger(input, strlen(circuit), text, CUDDREMAI_SHEET - 1, &written, &place) == CUDDREMAI_BUFFER_TOO_SHORT);
+    CHECK(written == 7 && place == 0 && is_fresh(text, 0, sizeof text));
+    CHECK(cuddremai_compare_aiger(input, strlen(circuit), text, CUDDREMAI_SHEET, &written, &place) == 0);
+    CHECK(written == length && place == 0);
+    CHECK(memcmp(text, sheet_of_circuit, length) == 0 && is_fresh(text, length, sizeof text));
+}
+
 int main(void)
 {
     reading();
+    reading_aiger();
     printing();
     closing();
     sheets();
+    sheets_of_circuits();
     printf("%u passed, %u failed\n", passed, failed);
     return failed != 0;
 }
