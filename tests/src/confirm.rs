@@ -1,6 +1,8 @@
-//! Has a SAT solver confirm the program's sheets: confirm PROGRAM SOLVER FILE...
+//! Has a SAT solver confirm the programs' sheets, of AIGER where a file is named .aag, else of DIMACS:
+//! confirm PROGRAM AIGER-PROGRAM SOLVER FILE...
 //! A solver is called with a file and ends with status 10 (satisfiable) or 20 (unsatisfiable).
 
+mod format;
 mod program;
 #[allow(dead_code)]
 mod sheets;
@@ -48,42 +50,65 @@ fn is_unsatisfiable(solver: &str, text: &str) -> bool {
     code == Some(20)
 }
 
-/// What was confirmed, or what is wrong.
-fn confirm(program: &str, solver: &str, text: &[u8]) -> Result<String, String> {
-    let sheet = program::answer(program, text);
-    if sheet != reference::answer_text(text) {
-        return Err(format!("program:\n{sheet}reference:\n{}", reference::answer_text(text)));
+struct Programs<'a> {
+    dimacs: &'a str,
+    aiger: &'a str,
+    solver: &'a str,
+}
+
+impl Programs<'_> {
+    fn answer(&self, file: &str, text: &[u8]) -> String {
+        program::answer(if format::is_aiger(file) { self.aiger } else { self.dimacs }, text)
     }
-    let Ok(list) = reference::read(text, usize::MAX) else {
-        return Ok(format!("turned away: {}", sheets::values(&sheet)));
-    };
-    let Some(leads) = sheets::leads(&sheet) else {
-        let none = is_unsatisfiable(solver, &query(&list, list.nets, &[]));
-        return if none { Ok("contradiction confirmed".into()) } else { Err("the list is satisfiable".into()) };
-    };
-    let joined = (1..).zip(&leads).filter(|(v, &lead)| *v != lead).count();
-    if joined > 0 && !is_unsatisfiable(solver, &some_differ(&list, &leads)) {
-        return Err(format!("a joining does not follow from the list:\n{sheet}"));
+
+    /// What was confirmed, or what is wrong.
+    fn confirm(&self, file: &str, text: &[u8]) -> Result<String, String> {
+        let format = format::of(file);
+        let (sheet, expected) = (self.answer(file, text), (format.answer_text)(text));
+        if sheet != expected {
+            return Err(format!("program:\n{sheet}reference:\n{expected}"));
+        }
+        let Ok(list) = (format.read)(text, usize::MAX) else {
+            return Ok(format!("turned away: {}", sheets::values(&sheet)));
+        };
+        if format::is_aiger(file) {
+            let dimacs = program::answer(self.dimacs, query(&list, list.nets, &[]).as_bytes());
+            if dimacs != sheet {
+                return Err(format!("program:\n{sheet}the same list as DIMACS:\n{dimacs}"));
+            }
+        }
+        self.confirm_sheet(&list, &sheet)
     }
-    Ok(format!("{joined} joinings confirmed"))
+
+    fn confirm_sheet(&self, list: &ClauseList, sheet: &str) -> Result<String, String> {
+        let Some(leads) = sheets::leads(sheet) else {
+            let none = is_unsatisfiable(self.solver, &query(list, list.nets, &[]));
+            return if none { Ok("contradiction confirmed".into()) } else { Err("the list is satisfiable".into()) };
+        };
+        let joined = (1..).zip(&leads).filter(|(v, &lead)| *v != lead).count();
+        if joined > 0 && !is_unsatisfiable(self.solver, &some_differ(list, &leads)) {
+            return Err(format!("a joining does not follow from the list:\n{sheet}"));
+        }
+        Ok(format!("{joined} joinings confirmed"))
+    }
 }
 
 fn main() {
     let args: Vec<String> = std::env::args().collect();
-    assert!(args.len() > 3, "usage: confirm PROGRAM SOLVER FILE...");
+    assert!(args.len() > 4, "usage: confirm PROGRAM AIGER-PROGRAM SOLVER FILE...");
+    let programs = Programs { dimacs: &args[1], aiger: &args[2], solver: &args[3] };
     let mut faults = 0;
-    for file in &args[3..] {
+    for file in &args[4..] {
         let text = std::fs::read(file).unwrap_or_else(|e| panic!("cannot read {file}: {e}"));
         let name = file.rsplit('/').next().unwrap_or(file);
-        let values = program::answer(&args[1], &text);
-        match confirm(&args[1], &args[2], &text) {
-            Ok(what) => println!("{name:<32}{:<36}{what}", sheets::values(&values)),
+        match programs.confirm(file, &text) {
+            Ok(what) => println!("{name:<32}{:<36}{what}", sheets::values(&programs.answer(file, &text))),
             Err(what) => {
                 faults += 1;
                 println!("FAULT ({name}): {what}");
             }
         }
     }
-    println!("{} lists from real tools, {faults} faults", args.len() - 3);
+    println!("{} lists from real tools, {faults} faults", args.len() - 4);
     std::process::exit(if faults == 0 { 0 } else { 1 });
 }

@@ -1,11 +1,15 @@
 //! Compares the product's static library with the reference, call by call in this process, with rows and buffers of many
 //! lengths and every round limit, its sheets of a list and of one with more clauses with each other, and its sheets of
 //! designs beside their copies, under limits that allow just so many rounds, with what must be joined then:
-//! library [LISTS OF EACH KIND] [SEED]. Built with the feature `library`.
+//! library [LISTS OF EACH KIND] [SEED]. Reading and the way to the sheet also from AIGER. Built with the feature `library`.
 
 mod added;
 mod cases;
+#[allow(dead_code)]
+mod circuit_texts;
+mod circuits;
 mod copies;
+mod damage;
 #[allow(dead_code)]
 mod large;
 mod lists;
@@ -14,12 +18,23 @@ mod sheets;
 mod texts;
 
 use cases::Cases;
+use circuit_texts::TurnedAway;
 use random::Random;
 use reference::{ClauseList, Refusal, Rows, Verdict};
 use std::collections::BTreeMap;
 
 extern "C" {
     fn cuddremai_read(
+        text: *const u8,
+        text_length: usize,
+        row: *mut i32,
+        row_length: usize,
+        nets: *mut u32,
+        clauses: *mut u32,
+        entries: *mut usize,
+        place: *mut usize,
+    ) -> u32;
+    fn cuddremai_read_aiger(
         text: *const u8,
         text_length: usize,
         row: *mut i32,
@@ -75,12 +90,41 @@ extern "C" {
         written: *mut usize,
         place: *mut usize,
     ) -> u32;
+    fn cuddremai_compare_aiger(
+        input: *const u8,
+        input_length: usize,
+        text: *mut u8,
+        text_length: usize,
+        written: *mut usize,
+        place: *mut usize,
+    ) -> u32;
 }
+
+/// The functions for a format, by their names, and the reference's reading.
+struct Format {
+    names: (&'static str, &'static str),
+    read: unsafe extern "C" fn(*const u8, usize, *mut i32, usize, *mut u32, *mut u32, *mut usize, *mut usize) -> u32,
+    compare: unsafe extern "C" fn(*const u8, usize, *mut u8, usize, *mut usize, *mut usize) -> u32,
+    expected: fn(&[u8], usize) -> Result<ClauseList, Refusal>,
+}
+
+const DIMACS: Format =
+    Format { names: ("read", "compare"), read: cuddremai_read, compare: cuddremai_compare, expected: reference::read };
+
+const AIGER: Format = Format {
+    names: ("read_aiger", "compare_aiger"),
+    read: cuddremai_read_aiger,
+    compare: cuddremai_compare_aiger,
+    expected: reference::aiger::read,
+};
 
 /// What a caller lends before a call, so that what must keep its contents shows.
 const OLD: u8 = 0xa5;
 const OLD_WORD: u32 = 0xa5a5_a5a5;
 const OLD_SIZE: usize = 0xa5a5_a5a5;
+
+/// No AIGER text makes more entries: ten for an AND line of at least six bytes, and two for the output.
+const MOST_MADE: usize = 110_000;
 
 /// A call that was made, the number that it answered, and whether all of its answer is right.
 struct Call {
@@ -104,14 +148,14 @@ fn after<A: Copy>(new: &[A], length: usize, old: A) -> Vec<A> {
     row
 }
 
-fn check_read(text: &[u8], room: usize) -> Call {
+fn check_read(format: &Format, text: &[u8], room: usize) -> Call {
     let mut row = vec![OLD_WORD as i32; room];
     let (mut nets, mut clauses, mut entries, mut place) = (OLD_WORD, OLD_WORD, OLD_SIZE, OLD_SIZE);
     let number = unsafe {
         let (p, length) = (text.as_ptr(), text.len());
-        cuddremai_read(p, length, row.as_mut_ptr(), room, &mut nets, &mut clauses, &mut entries, &mut place)
+        (format.read)(p, length, row.as_mut_ptr(), room, &mut nets, &mut clauses, &mut entries, &mut place)
     };
-    let expected = reference::read(text, room);
+    let expected = (format.expected)(text, room);
     let (size, numbers) = match &expected {
         Ok(l) => ((l.nets as u32, l.clauses as u32, l.row.len()), l.row.iter().map(|&x| x as i32).collect()),
         Err(_) => ((OLD_WORD, OLD_WORD, OLD_SIZE), vec![]),
@@ -119,7 +163,7 @@ fn check_read(text: &[u8], room: usize) -> Call {
     let right = (number, place) == told(&expected)
         && (nets, clauses, entries) == size
         && row == after(&numbers, room, OLD_WORD as i32);
-    Call { name: "read", number, right }
+    Call { name: format.names.0, number, right }
 }
 
 /// A buffer's content and the bytes written, as they must be after a call.
@@ -220,17 +264,17 @@ fn sheet_text(list: &lists::List, limit: u32) -> String {
     String::from_utf8_lossy(&text[..written]).into_owned()
 }
 
-fn check_compare(input: &[u8], buffer: usize) -> Call {
+fn check_compare(format: &Format, input: &[u8], buffer: usize) -> Call {
     let mut text = vec![OLD; buffer];
     let (mut written, mut place) = (OLD_SIZE, OLD_SIZE);
     let number = unsafe {
         let (p, length) = (input.as_ptr(), input.len());
-        cuddremai_compare(p, length, text.as_mut_ptr(), buffer, &mut written, &mut place)
+        (format.compare)(p, length, text.as_mut_ptr(), buffer, &mut written, &mut place)
     };
     let rows = Rows { leads: 1_024, work: 16_384 };
-    let expected = reference::read(input, 32_763).and_then(|l| reference::sheet(&l, l.nets + 1, rows, buffer));
+    let expected = (format.expected)(input, usize::MAX).and_then(|l| reference::sheet(&l, l.nets + 1, rows, buffer));
     let right = (number, place) == told(&expected) && (text, written) == text_after(&expected, buffer);
-    Call { name: "compare", number, right }
+    Call { name: format.names.1, number, right }
 }
 
 fn clause_list(list: &lists::List) -> ClauseList {
@@ -262,6 +306,14 @@ fn handed(list: &lists::List, r: &mut Random) -> ClauseList {
     ClauseList { nets, clauses, row }
 }
 
+/// Counts the calls; the name of the first that is wrong.
+fn first_wrong(calls: &[Call], tally: &mut Tally) -> Option<&'static str> {
+    for call in calls {
+        *tally.entry(call.name).or_default().entry(call.number).or_default() += 1;
+    }
+    Some(calls.iter().find(|call| !call.right)?.name)
+}
+
 /// All calls for one list; the name of the first that is wrong.
 fn fault(list: &ClauseList, text: &[u8], tally: &mut Tally, r: &mut Random) -> Option<String> {
     let row = entries(list);
@@ -276,16 +328,13 @@ fn fault(list: &ClauseList, text: &[u8], tally: &mut Tally, r: &mut Random) -> O
     let room = r.pick(&[row.len(), row.len() + 5, row.len().saturating_sub(1), 32_763]);
     let sheet = r.pick(&[16_384, 16_384, 16_383, 20_000]);
     let calls = [
-        check_read(text, room),
+        check_read(&DIMACS, text, room),
         check_print(list, &row, buffer),
         check_close(list, &row, limit, rows),
         check_sheet(list, &row, limit, rows, sheet),
-        check_compare(text, sheet),
+        check_compare(&DIMACS, text, sheet),
     ];
-    for call in &calls {
-        *tally.entry(call.name).or_default().entry(call.number).or_default() += 1;
-    }
-    let wrong = calls.iter().find(|call| !call.right)?.name;
+    let wrong = first_wrong(&calls, tally)?;
     Some(format!("{wrong}: row of {room}, buffers of {buffer} and {sheet}, limit {limit}, {rows:?}"))
 }
 
@@ -338,6 +387,55 @@ fn check_copies(count: usize, r: &mut Random) -> usize {
     faults + cases.missing(copies::TITLE, &copies::MUST)
 }
 
+/// The entries that an AIGER text makes, also if there are too many: the least room for which 4 is not given.
+fn entries_made(text: &[u8]) -> usize {
+    let (mut low, mut high) = (0, MOST_MADE);
+    while low < high {
+        let middle = (low + high) / 2;
+        match reference::aiger::read(text, middle) {
+            Err(Refusal { number: 4, .. }) => low = middle + 1,
+            _ => high = middle,
+        }
+    }
+    low
+}
+
+/// Both calls for one AIGER text; the name of the first that is wrong.
+fn circuit_fault(text: &[u8], tally: &mut Tally, r: &mut Random) -> Option<String> {
+    let made = entries_made(text);
+    let room = r.pick(&[made, made + 5, made.saturating_sub(1), 0, MOST_MADE]);
+    let sheet = r.pick(&[16_384, 16_384, 16_383, 20_000]);
+    let wrong = first_wrong(&[check_read(&AIGER, text, room), check_compare(&AIGER, text, sheet)], tally)?;
+    Some(format!("{wrong}: row of {room}, buffer of {sheet}"))
+}
+
+/// The text for the i-th circuit of a kind.
+fn circuit_text(kind: &circuits::Kind, i: usize, r: &mut Random) -> Vec<u8> {
+    let circuit = circuits::random_circuit(kind, r);
+    match i % 4 {
+        0 => circuit_texts::damaged(&circuit, r),
+        1 => TurnedAway::random(r).text,
+        2 if i % 20 == 2 => circuit_texts::padded(&circuit, r),
+        _ => circuit.text(),
+    }
+}
+
+/// AIGER texts; how many faults.
+fn check_circuits(count: usize, tally: &mut Tally, r: &mut Random) -> usize {
+    let mut faults = 0;
+    let large = circuits::LARGE.iter().map(|k| (k, count / 100 + 4));
+    for (kind, many) in circuits::KINDS.iter().map(|k| (k, count)).chain(large) {
+        for i in 0..many {
+            let text = circuit_text(kind, i, r);
+            if let Some(what) = circuit_fault(&text, tally, r) {
+                faults += 1;
+                println!("FAULT ({}): {what}\n\"{}\"", kind.name, text.escape_ascii());
+            }
+        }
+    }
+    faults
+}
+
 /// The text for the i-th list of a kind.
 fn text_of(list: &lists::List, i: usize, r: &mut Random) -> Vec<u8> {
     match i % 4 {
@@ -353,7 +451,8 @@ fn main() {
     let count: usize = args.get(1).map_or(1_000, |n| n.parse().expect("a number of lists"));
     let seed: u64 = args.get(2).map_or(1, |n| n.parse().expect("a seed"));
     println!(
-        "seed {seed}, {count} lists of each kind, five calls for each, and a larger list; designs beside their copies"
+        "seed {seed}, {count} lists of each kind, five calls for each, and a larger list; designs beside their copies; \
+         {count} circuits of each kind, two calls for each"
     );
     let mut r = Random::new(seed);
     let mut faults = 0;
@@ -377,6 +476,7 @@ fn main() {
             }
         }
     }
+    faults += check_circuits(count, &mut tally, &mut r);
     for (call, numbers) in &tally {
         println!("{call}: {numbers:?}");
     }

@@ -1,5 +1,7 @@
-//! A reference for the comparison sheet, written from the texts of document 01 and, for ITEs, document 02, and nothing else:
-//! naive, and in document 01's order. It shares no code and no definition with the product.
+//! A reference for the comparison sheet, written from the texts of document 01 and, for ITEs and AIGER, document 02, and
+//! nothing else: naive, and in document 01's order. It shares no code and no definition with the product.
+
+pub mod aiger;
 
 use std::collections::{BTreeMap, BTreeSet, HashMap, HashSet};
 
@@ -654,10 +656,15 @@ pub fn refusal_text(r: &Refusal) -> String {
     format!("refusal,place\n{},{}\n", r.number, r.place)
 }
 
-/// What the program prints for a text.
-pub fn answer_text(text: &[u8]) -> String {
-    match read(text, PROGRAM_ROW) {
+/// The sheet of what was read, or the refusal.
+fn answer(list: Result<ClauseList, Refusal>) -> String {
+    match list {
         Ok(list) => sheet_text(list.nets, &closed(&list, list.nets + 1)),
         Err(r) => refusal_text(&r),
     }
+}
+
+/// What the program prints for a text.
+pub fn answer_text(text: &[u8]) -> String {
+    answer(read(text, PROGRAM_ROW))
 }

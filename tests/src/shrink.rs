@@ -74,7 +74,7 @@ fn renumbered(list: &List) -> List {
     List { nets: nets.len(), clauses }
 }
 
-/// A text with fewer bytes.
-pub fn text(failing: &[u8], fails: &dyn Fn(&[u8]) -> bool) -> Vec<u8> {
-    fewer(failing, &mut Tries::new(), &mut |bytes| fails(bytes))
+/// Fewer bytes of a text, or lines of a file.
+pub fn items<A: Clone>(failing: &[A], fails: &dyn Fn(&[A]) -> bool) -> Vec<A> {
+    fewer(failing, &mut Tries::new(), &mut |items| fails(items))
 }

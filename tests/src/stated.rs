@@ -1,7 +1,8 @@
-//! The answers that document 01 states, the last starred one as document 02 changes it, which the reference and the program must both give.
+//! The answers that document 01 states, the last starred one as document 02 changes it, which the reference and the program
+//! must both give.
 
 /// A text, what is printed on the second line, and the leads if they are stated.
-type Stated = (&'static str, &'static str, &'static [&'static str]);
+pub type Stated = (&'static str, &'static str, &'static [&'static str]);
 
 const SHEET: &str = "p cnf 4 6\n-3 1 0 -3 2 0 3 -1 -2 0\n-4 1 0 -4 2 0 4 -1 -2 0\n";
 

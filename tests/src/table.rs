@@ -1,41 +1,47 @@
 //! What was compared, for the table at the end.
 
 use crate::cases::Cases;
-use crate::{added, copies, sheets};
+use crate::sheets;
 use std::collections::BTreeMap;
-
-/// The refusals that a text can bring.
-const REFUSALS: [u32; 9] = [1, 2, 3, 5, 6, 7, 10, 11, 12];
 
 #[derive(Default)]
 pub struct Row {
-    pub compared: usize,
-    pub changed: usize,
-    pub truths: usize,
-    pub added: usize,
+    counts: BTreeMap<&'static str, usize>,
     pub faults: usize,
     pub seconds: f64,
 }
 
 impl Row {
-    fn print(&self, kind: &str) {
-        print!("{kind:<16}{:>10}{:>10}{:>10}{:>10}", self.compared, self.changed, self.truths, self.added);
+    pub fn count(&mut self, column: &'static str) {
+        *self.counts.entry(column).or_default() += 1;
+    }
+
+    fn add(&mut self, other: &Row) {
+        for (column, count) in &other.counts {
+            *self.counts.entry(column).or_default() += count;
+        }
+        self.faults += other.faults;
+        self.seconds += other.seconds;
+    }
+
+    fn print(&self, kind: &str, columns: &[&str]) {
+        print!("{kind:<16}");
+        columns.iter().for_each(|c| print!("{:>10}", self.counts.get(c).unwrap_or(&0)));
         println!("{:>10}{:>10.1}", self.faults, self.seconds);
     }
 }
 
 #[derive(Default)]
 pub struct Table {
-    pub rows: BTreeMap<&'static str, Row>,
+    columns: &'static [&'static str],
+    rows: BTreeMap<&'static str, Row>,
     verdicts: BTreeMap<String, usize>,
     rounds: BTreeMap<u64, usize>,
     /// lists of at least two nets that took V rounds, and V + 1
     longest: [usize; 2],
     refusals: BTreeMap<u32, usize>,
-    /// how the answers to a list and to a larger one compared
-    added: Cases,
-    /// how the comparisons of designs with their copies came out
-    pub copies: Cases,
+    /// by their titles
+    cases: BTreeMap<&'static str, Cases>,
 }
 
 /// Rounds are counted by their number up to 9, then by the power of ten below.
@@ -49,12 +55,16 @@ fn bucket(rounds: u64) -> u64 {
 }
 
 impl Table {
+    pub fn new(columns: &'static [&'static str]) -> Table {
+        Table { columns, ..Table::default() }
+    }
+
     pub fn row(&mut self, kind: &'static str) -> &mut Row {
         self.rows.entry(kind).or_default()
     }
 
     /// Counts an answer that both sides gave.
-    pub fn count(&mut self, printed: &str) {
+    pub fn count_answer(&mut self, printed: &str) {
         if let Some(number) = sheets::refusal(printed) {
             *self.refusals.entry(number).or_default() += 1;
             return;
@@ -67,14 +77,17 @@ impl Table {
         }
     }
 
-    /// Counts a list that was compared with a larger one.
-    pub fn count_added(&mut self, kind: &'static str, case: String) {
-        self.row(kind).added += 1;
-        self.added.count(case);
+    pub fn count_case(&mut self, title: &'static str, case: String) {
+        self.cases.entry(title).or_default().count(case);
     }
 
-    pub fn missing_refusals(&self) -> Vec<u32> {
-        REFUSALS.iter().copied().filter(|n| !self.refusals.contains_key(n)).collect()
+    /// How many of the cases that must come did not.
+    pub fn missing_cases(&self, title: &str, must: &[&str]) -> usize {
+        self.cases.get(title).unwrap_or(&Cases::default()).missing(title, must)
+    }
+
+    pub fn missing_refusals(&self, must: &[u32]) -> Vec<u32> {
+        must.iter().copied().filter(|n| !self.refusals.contains_key(n)).collect()
     }
 
     pub fn faults(&self) -> usize {
@@ -82,24 +95,19 @@ impl Table {
     }
 
     pub fn print(&self) {
-        print!("{:<16}{:>10}{:>10}{:>10}{:>10}", "kind", "compared", "changed", "truth", "added");
+        print!("{:<16}", "kind");
+        self.columns.iter().for_each(|c| print!("{c:>10}"));
         println!("{:>10}{:>10}", "faults", "seconds");
         let mut sum = Row::default();
         for (kind, row) in &self.rows {
-            row.print(kind);
-            sum.compared += row.compared;
-            sum.changed += row.changed;
-            sum.truths += row.truths;
-            sum.added += row.added;
-            sum.faults += row.faults;
-            sum.seconds += row.seconds;
+            row.print(kind, self.columns);
+            sum.add(row);
         }
-        sum.print("all");
+        sum.print("all", self.columns);
         println!("verdicts {:?}", self.verdicts);
         println!("rounds {:?} (10, 100, 1000: from there on)", self.rounds);
         println!("V rounds {}, V + 1 rounds {} (V at least 2)", self.longest[0], self.longest[1]);
         println!("refusals {:?}", self.refusals);
-        self.added.print(added::TITLE);
-        self.copies.print(copies::TITLE);
+        self.cases.iter().for_each(|(title, cases)| cases.print(title));
     }
 }

@@ -1,5 +1,6 @@
 //! The texts of lists: plain, dressed, padded, damaged, and made to be turned away.
 
+use crate::damage;
 use crate::lists::List;
 use crate::random::Random;
 
@@ -47,7 +48,7 @@ pub fn dressed(list: &List, r: &mut Random) -> Vec<u8> {
 /// The same list with blanks or a comment behind it, up to about the longest text.
 pub fn padded(list: &List, r: &mut Random) -> Vec<u8> {
     let mut text = plain(list);
-    let length: usize = r.pick(&[65_535, 65_536, 65_536, 65_537, 65_538, 70_000, 140_000]);
+    let length = damage::about_longest(r);
     let byte = r.pick(b" \t\r\nc");
     if byte == b'c' && r.once_in(2) {
         let mut long = vec![b'c'; length.saturating_sub(text.len() + 1)];
@@ -111,60 +112,13 @@ const WORDS: [&[u8]; 22] = [
 pub fn damaged(mut text: Vec<u8>, r: &mut Random) -> Vec<u8> {
     for _ in 0..r.between(1, 3) {
         match r.below(8) {
-            0 => text = with_header(&text, r),
-            1 | 2 => text = with_word(&text, r),
-            3 => text = with_line_ends(&text, r),
-            _ => damage_byte(&mut text, r),
+            0 => text = damage::with_header(&text, &HEADERS, r),
+            1 | 2 => text = damage::with_word(&text, &WORDS, r),
+            3 => text = damage::with_line_ends(&text, r),
+            _ => damage::damage_byte(&mut text, b"0123456789- \t\r\npcnf\0\x0b\xa0+x", r),
         }
     }
     text
-}
-
-fn damage_byte(text: &mut Vec<u8>, r: &mut Random) {
-    let byte = r.pick(b"0123456789- \t\r\npcnf\0\x0b\xa0+x");
-    let at = r.below(text.len() + 1);
-    let end = text.len().min(at + r.between(1, 4));
-    match r.below(6) {
-        0 => text.insert(at, byte),
-        1 if at < text.len() => text[at] = byte,
-        2 if at < text.len() => text[at] ^= 1 << r.below(8),
-        3 => drop(text.drain(at..end)),
-        4 => {
-            let again = text[at..end].to_vec();
-            text.splice(at..at, again);
-        }
-        _ => text.truncate(at),
-    }
-}
-
-/// Another header in place of the first line.
-fn with_header(text: &[u8], r: &mut Random) -> Vec<u8> {
-    let rest = text.iter().position(|&b| b == b'\n').map_or(text.len(), |i| i + 1);
-    [r.pick(&HEADERS), &text[rest..]].concat()
-}
-
-/// Another word in place of one, or behind it.
-fn with_word(text: &[u8], r: &mut Random) -> Vec<u8> {
-    let from = r.below(text.len() + 1);
-    let is_blank = |b: &u8| b" \t\r\n".contains(b);
-    let start = text[from..].iter().position(is_blank).map_or(text.len(), |i| from + i + 1);
-    let end = text[start..].iter().position(is_blank).map_or(text.len(), |i| start + i);
-    let end = if r.once_in(2) { end } else { start };
-    [&text[..start], r.pick(&WORDS), if end == start { b" " } else { b"" }, &text[end..]].concat()
-}
-
-fn with_line_ends(text: &[u8], r: &mut Random) -> Vec<u8> {
-    let end: &[u8] = r.pick(&[b"\r" as &[u8], b"\r\n", b"\n\r", b"\n\n", b"\rc ", b"\n c "]);
-    let from = r.below(text.len() + 1);
-    let mut changed = text[..from].to_vec();
-    for &b in &text[from..] {
-        if b == b'\n' {
-            changed.extend_from_slice(end);
-        } else {
-            changed.push(b);
-        }
-    }
-    changed
 }
 
 /// Sizes and entries of which several are past their limits at once, so that the order of the tests shows.

@@ -6,7 +6,8 @@ use reference::{F, T};
 
 pub const MOST_NETS: usize = 12;
 
-fn value(assignment: u32, x: i64) -> bool {
+/// The value that an assignment gives a literal or a constant.
+pub fn value(assignment: u32, x: i64) -> bool {
     match x {
         T => true,
         F => false,
@@ -14,7 +15,7 @@ fn value(assignment: u32, x: i64) -> bool {
     }
 }
 
-fn satisfies(assignment: u32, list: &List) -> bool {
+pub fn satisfies(assignment: u32, list: &List) -> bool {
     list.clauses.iter().all(|c| c.iter().any(|&l| value(assignment, l)))
 }
 
@@ -22,18 +23,28 @@ fn satisfies(assignment: u32, list: &List) -> bool {
 /// tried: not if the list is refused. Else what is wrong.
 pub fn check(program: &str, list: &List) -> Result<bool, String> {
     let sheet = program::answer(program, &texts::plain(list));
-    if sheets::refusal(&sheet).is_some() {
+    check_sheet(&sheet, list.nets, &|assignment| satisfies(assignment, list))
+}
+
+/// The same of a sheet and any assignments that are to be looked at.
+pub fn check_sheet(sheet: &str, nets: usize, is_one: &dyn Fn(u32) -> bool) -> Result<bool, String> {
+    if sheets::refusal(sheet).is_some() {
         return Ok(false);
     }
-    let leads = sheets::leads(&sheet);
+    let leads = sheets::leads(sheet);
     let holds = |assignment: u32| match &leads {
-        Some(leads) => (1..=list.nets).all(|v| value(assignment, v as i64) == value(assignment, leads[v - 1])),
+        Some(leads) => (1..=nets).all(|v| value(assignment, v as i64) == value(assignment, leads[v - 1])),
         None => false,
     };
-    let broken = (0u32..1 << list.nets).find(|&a| satisfies(a, list) && !holds(a));
-    let Some(broken) = broken else { return Ok(true) };
-    let states: Vec<i64> = (1..=list.nets as i64).map(|v| if value(broken, v) { v } else { -v }).collect();
-    Err(format!("its sheet:\n{sheet}an assignment that satisfies the list: {states:?}\n"))
+    match (0u32..1 << nets).find(|&a| is_one(a) && !holds(a)) {
+        None => Ok(true),
+        Some(a) => Err(format!("its sheet:\n{sheet}an assignment that satisfies the list: {:?}\n", states(a, nets))),
+    }
+}
+
+/// The literals that an assignment makes true.
+pub fn states(assignment: u32, nets: usize) -> Vec<i64> {
+    (1..=nets as i64).map(|v| if value(assignment, v) { v } else { -v }).collect()
 }
 
 /// Whether some satisfying assignment gives the two literals different values.

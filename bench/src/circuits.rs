@@ -1,0 +1,95 @@
+//! Measures the program for AIGER text on texts that are hard to read: circuits PROGRAM RUNS. M is 999,999,999 where it may be, so that no
+//! table of nets could help in finding what is listed or set twice. Times are medians of processor time beyond an empty run; the
+//! last column is the time beside that of inputs in order, in the same run.
+
+mod process;
+
+use std::path::Path;
+use std::process::Command;
+
+/// The bytes that a text may have.
+const MOST: usize = 65_536;
+const LARGEST: usize = 999_999_999;
+/// Nets that agree in their low bits, and so in the remainder by any number of buckets that is a power of two up to this.
+const STEP: usize = 65_536;
+
+fn main() {
+    let arguments: Vec<String> = std::env::args().skip(1).collect();
+    let [program, runs] = &arguments[..] else { panic!("circuits PROGRAM RUNS") };
+    let runs: usize = runs.parse().expect("a number of runs");
+    let folder = std::env::temp_dir().join(format!("circuits.{}", std::process::id()));
+    std::fs::create_dir(&folder).expect("a folder for the texts");
+    let write = |(title, text): (&'static str, String)| {
+        let path = folder.join(title.replace(' ', "-"));
+        assert!(text.len() <= MOST, "{title} has {} bytes", text.len());
+        std::fs::write(&path, &text).expect("the folder can be written");
+        (title, text.len(), path)
+    };
+    let empty = write(("empty", circuit(0, &[], 1, &[]))).2;
+    let entries: Vec<_> = texts().into_iter().map(write).collect();
+    println!(
+        "An empty circuit takes {:.2} ms from the start of the process to its end.\n",
+        start(Path::new(program), &empty, runs)
+    );
+    println!("| text | bytes | answer | product, ms | beside the first |\n|---|--:|---|--:|--:|");
+    let mut first = None;
+    for (title, bytes, path) in &entries {
+        let (work, answer) = measure(Path::new(program), path, &empty, runs);
+        let beside = work / *first.get_or_insert(work);
+        println!("| {title} | {bytes} | {answer} | {work:.2} | {beside:.1} |");
+    }
+    std::fs::remove_dir_all(&folder).expect("the folder can be removed");
+}
+
+fn once(program: &Path, input: &Path) -> process::Ran {
+    process::run(&mut Command::new(program), input, 100).expect("the program can be run")
+}
+
+fn median(mut times: Vec<f64>) -> f64 {
+    times.sort_by(f64::total_cmp);
+    times[times.len() / 2]
+}
+
+fn start(program: &Path, empty: &Path, runs: usize) -> f64 {
+    median((0..runs).map(|_| once(program, empty).milliseconds).collect())
+}
+
+/// The median of the work beyond an empty run, the two taking turns, and the second line that is printed.
+fn measure(program: &Path, input: &Path, empty: &Path, runs: usize) -> (f64, String) {
+    let beyond = |_| once(program, input).milliseconds - once(program, empty).milliseconds;
+    let work = median((0..runs).map(beyond).collect());
+    let ran = once(program, input);
+    assert_eq!(ran.status, Some(0), "the program was ended");
+    let lines: Vec<&str> = ran.printed.lines().take(2).collect();
+    let kind = if lines[0].starts_with("refusal") { "refusal " } else { "" };
+    (work, format!("{kind}{}", lines[1]))
+}
+
+fn texts() -> Vec<(&'static str, String)> {
+    let reversed = |nets: Vec<usize>| nets.into_iter().rev().collect::<Vec<_>>();
+    let in_order = || (1..10_400).collect::<Vec<_>>();
+    let same_low = || (1..=LARGEST / 2 / STEP).take(6_500).map(|k| k * STEP).collect::<Vec<_>>();
+    let gates = |nets: Vec<usize>| nets.into_iter().map(|n| [2 * n, 1, 1]).collect::<Vec<_>>();
+    vec![
+        ("inputs in order", circuit(LARGEST, &in_order(), 0, &[])),
+        ("inputs in reverse order", circuit(LARGEST, &reversed(in_order()), 0, &[])),
+        ("inputs with the same low bits", circuit(LARGEST, &same_low(), 0, &[])),
+        ("the same in reverse order", circuit(LARGEST, &reversed(same_low()), 0, &[])),
+        ("ANDs in order", circuit(LARGEST, &[], 0, &gates((1..7_000).collect()))),
+        ("ANDs with the same low bits", circuit(LARGEST, &[], 0, &gates(same_low().into_iter().take(4_600).collect()))),
+        ("ANDs that set one net", circuit(LARGEST, &[], 0, &gates(vec![1; 10_900]))),
+        (
+            "1,022 ANDs in a chain",
+            circuit(1_024, &[1, 2], 1, &(3..=1_024).map(|n| [2 * n, 2 * n - 2, 2 * n - 3]).collect::<Vec<_>>()),
+        ),
+    ]
+}
+
+/// The text of a circuit with so many nets, inputs, an output literal and AND lines.
+fn circuit(nets: usize, inputs: &[usize], output: usize, ands: &[[usize; 3]]) -> String {
+    let mut text = format!("aag {nets} {} 0 1 {}\n", inputs.len(), ands.len());
+    text.extend(inputs.iter().map(|n| format!("{}\n", 2 * n)));
+    text += &format!("{output}\n");
+    text.extend(ands.iter().map(|[l, a, b]| format!("{l} {a} {b}\n")));
+    text
+}
