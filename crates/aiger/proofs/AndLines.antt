@@ -19,7 +19,7 @@ use Rattle.aiger.specs.declared.ands.And.{And}
 use Rattle.aiger.specs.declared.ands.AndLine.the-variants as G
 use Rattle.aiger.specs.declared.ands.Scan.{Scan}
 use Rattle.aiger.specs.declared.ands.Scan.the-variants as S
-use Rattle.aiger.specs.Circuit.{andClauses, simplified, rowOf}
+use Rattle.aiger.specs.Circuit.{andClauses, simplified, literalRow}
 use Rattle.aiger.specs.Line.{isNew, AndField, andAt, Lines, said, faulty, prepend, andLines, badOutput}
 use Rattle.aiger.specs.Scanning.{asAndLine, made, andEntries, Room, Ready, Making, AndTaken, AndsResult, entries, set-at, faulty-at, orSet, andsResult, asScan, AndsRead}
 use Rattle.aiger.specs.Tree.{Tree}
@@ -127,7 +127,7 @@ tally-length m es = refl
 
 -- the entries of no line
 entries-none : andEntries [] ≡ []
-unfolding made rowOf simplified each keep
+unfolding made literalRow simplified each keep
 entries-none = refl
 
 module _ (m : ℕ) (text : List ℕ) (count from inputs : ℕ) (keys₀ : List ℕ) (kept₀ : List ℤ) where

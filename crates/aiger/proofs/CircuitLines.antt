@@ -12,7 +12,8 @@ use Rattle.aiger.specs.declared.header.Header.{Header}
 use Rattle.aiger.specs.Circuit.{Circuit}
 use Rattle.aiger.specs.Line.{Field, literalAt, AndField, andAt, Lines, said, faulty, inputLines, prepend, andLines, circuitFrom, outputLines, circuitLines}
 use Rattle.aiger.proofs.Entries.{AndWithin, LiteralsWithin}
-use Rattle.aiger.proofs.Fields.{then-there, literal-read}
+use Rattle.clauses.proofs.Headers.{then-elim}
+use Rattle.aiger.proofs.Fields.{literal-read}
 
 -- an AND line that was read: its literals have at most nine digits and are at most 2M + 1, and a place further on in the text lies behind it
 pub record AndRead (m : ℕ) (text : List ℕ) (p : ℕ) (g : AndField) : Type 0 where
@@ -33,9 +34,9 @@ module _ (m : ℕ) (text : List ℕ) where
     pub and-read : andAt m text p ≡ some g → AndRead m text p g
     unfolding andAt lineOf
     and-read e =
-        then-there _ _ g e (λ l u v.
-        then-there _ _ g v (λ a w x.
-        then-there _ _ g x (λ b y z.
+        then-elim _ _ g e (λ l u v.
+        then-elim _ _ g v (λ a w x.
+        then-elim _ _ g x (λ b y z.
         let same : lineOf l a b ≡ g = cc in
         let first = literal-read space text p m (omega arith) l u in
         let second = literal-read space text (l .next) m (omega arith) a w in

@@ -16,7 +16,7 @@ use Rattle.clauses.specs.Code.{codeOf, negate, net}
 use Rattle.clauses.specs.Lists.{any, each}
 use Rattle.clauses.proofs.Lists.{in-first, in-second, in-third, any-has, has-any, each-elim, has-each}
 use Rattle.aiger.specs.declared.ands.And.{And}
-use Rattle.aiger.specs.Circuit.{Circuit, Runs, andClauses, isLeftOut, withoutFalse, simplified, entryOf, rowOf}
+use Rattle.aiger.specs.Circuit.{Circuit, Runs, andClauses, isLeftOut, withoutFalse, simplified, entryOf, literalRow}
 use Rattle.aiger.specs.Reading.{entriesOf}
 use Rattle.aiger.specs.Scanning.{made}
 use Rattle.aiger.proofs.Entries.{row-nil, row-cons, LeftOut, left-out-has, and-all, givenClauses, circuit-made, simplified-has, has-simplified, without-has, has-without, Nets, simplified-nets}
@@ -42,16 +42,16 @@ clause-of-entries (x ∷ c) row h =
     let n : 2 ≤ x = h x in-first in
     rw (entry-code x n, ne-eqb x 0 (λ e. omega arith)) (ap (onto x) (clause-of-entries c row (λ y m. h y (List·Memᴰ·tail m))))
 
-clauses-of-row : (cs : List (List ℕ)) → Nets cs → clausesOf (rowOf cs) ≡ cs
+clauses-of-row : (cs : List (List ℕ)) → Nets cs → clausesOf (literalRow cs) ≡ cs
 unfolding clausesOf clausesIn
 clauses-of-row [] h = ap clausesOf row-nil
 clauses-of-row (c ∷ cs) h =
-    ap clausesOf (row-cons c cs) ∙ clause-of-entries c (rowOf cs) (h c in-first)
+    ap clausesOf (row-cons c cs) ∙ clause-of-entries c (literalRow cs) (h c in-first)
     ∙ ap (λ (ds : List (List ℕ)). c ∷ ds) (clauses-of-row cs (λ d m. h d (List·Memᴰ·tail m)))
 
-pub row-clauses : (cs : List (List ℕ)) → clausesOf (made cs) ≡ simplified cs
+pub made-clauses : (cs : List (List ℕ)) → clausesOf (made cs) ≡ simplified cs
 unfolding made
-row-clauses cs = clauses-of-row (simplified cs) (simplified-nets cs)
+made-clauses cs = clauses-of-row (simplified cs) (simplified-nets cs)
 
 -- Lists of clauses
 
@@ -179,4 +179,4 @@ module _ (value : ℕ → Bool) where
 
     -- An assignment satisfies the clauses of a circuit exactly when it obeys every AND line and makes the output true.
     pub circuit-true : (k : Circuit) → Satisfies value (clausesOf (entriesOf k)) ↔ Runs value k
-    circuit-true k = rw (circuit-made k, row-clauses) (λ sat. given-true k .0 (simplified-true _ .0 sat), λ r. simplified-true _ .1 (given-true k .1 r))
+    circuit-true k = rw (circuit-made k, made-clauses) (λ sat. given-true k .0 (simplified-true _ .0 sat), λ r. simplified-true _ .1 (given-true k .1 r))

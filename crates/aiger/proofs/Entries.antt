@@ -21,26 +21,26 @@ use Rattle.clauses.proofs.Clauses.{mem-in, in-mem, tautology-is, is-tautology}
 use Rattle.clauses.proofs.Deciding.{NoneHolds}
 use Rattle.clauses.proofs.Lists.{or-cases, or-left, or-right, not-is, not-eqb, eqb-not, in-first, in-second, in-third, mem-map, mem-of-map, keep-has, has-keep, keep-append, keep-length, each-elim, each-append}
 use Rattle.aiger.specs.declared.ands.And.{And}
-use Rattle.aiger.specs.Circuit.{Circuit, andClauses, isLeftOut, withoutFalse, simplified, circuitClauses, entryOf, rowOf}
+use Rattle.aiger.specs.Circuit.{Circuit, andClauses, isLeftOut, withoutFalse, simplified, circuitClauses, entryOf, literalRow}
 use Rattle.aiger.specs.Reading.{entriesOf}
 use Rattle.aiger.specs.Scanning.{isTrue, made, clauseEntries, literalEntries, andEntries}
 
 -- Clauses one after another
 
-pub row-nil : rowOf [] ≡ []
-unfolding rowOf each
+pub row-nil : literalRow [] ≡ []
+unfolding literalRow each
 row-nil = refl
 
-pub row-cons : (c : List ℕ) (cs : List (List ℕ)) → rowOf (c ∷ cs) ≡ map entryOf c ++ (pos 0 ∷ rowOf cs)
-unfolding rowOf each
-row-cons c cs = append-assoc (map entryOf c) (pos 0 ∷ []) (rowOf cs)
+pub row-cons : (c : List ℕ) (cs : List (List ℕ)) → literalRow (c ∷ cs) ≡ map entryOf c ++ (pos 0 ∷ literalRow cs)
+unfolding literalRow each
+row-cons c cs = append-assoc (map entryOf c) (pos 0 ∷ []) (literalRow cs)
 
 simplified-append : (cs ds : List (List ℕ)) → simplified (cs ++ ds) ≡ simplified cs ++ simplified ds
 unfolding simplified
 simplified-append cs ds = rw keep-append (map-append withoutFalse (keep (λ c. not (isLeftOut c)) cs) (keep (λ c. not (isLeftOut c)) ds))
 
 pub made-append : (cs ds : List (List ℕ)) → made (cs ++ ds) ≡ made cs ++ made ds
-unfolding made rowOf
+unfolding made literalRow
 made-append cs ds = rw simplified-append (each-append (simplified cs) (simplified ds) (λ c. map entryOf c ++ (pos 0 ∷ [])))
 
 -- Clauses left out
@@ -130,7 +130,7 @@ module _ (x y z : ℕ) where
 -- The entries of one clause
 
 made-clause : (c : List ℕ) → clauseEntries c ≡ cond (isLeftOut c) [] (map entryOf (withoutFalse c) ++ (pos 0 ∷ []))
-unfolding made rowOf simplified each keep
+unfolding made literalRow simplified each keep
 made-clause c = cases (isLeftOut c) (λ e. rw (e, keep)) (λ e. rw (e, keep) (append-nil (map entryOf (withoutFalse c) ++ (pos 0 ∷ []))))
 
 pub made-left-out : (c : List ℕ) → isLeftOut c ≡ true → clauseEntries c ≡ []
@@ -290,11 +290,11 @@ clause-zeros (x ∷ c) row h =
     let n : 2 ≤ x = h x in-first in
     rw (entry-magnitude x, ne-eqb (net x) 0 (λ e. omega arith)) (clause-zeros c row (λ y m. h y (List·Memᴰ·tail m)))
 
-row-zeros : (cs : List (List ℕ)) → Nets cs → zeros (rowOf cs) ≡ length cs
+row-zeros : (cs : List (List ℕ)) → Nets cs → zeros (literalRow cs) ≡ length cs
 unfolding zeros
 row-zeros [] h = ap zeros row-nil
 row-zeros (c ∷ cs) h =
-    ap zeros (row-cons c cs) ∙ clause-zeros c (pos 0 ∷ rowOf cs) (h c in-first) ∙ ap suc (row-zeros cs (λ d m. h d (List·Memᴰ·tail m)))
+    ap zeros (row-cons c cs) ∙ clause-zeros c (pos 0 ∷ literalRow cs) (h c in-first) ∙ ap suc (row-zeros cs (λ d m. h d (List·Memᴰ·tail m)))
 
 pub made-zeros : (cs : List (List ℕ)) → zeros (made cs) ≡ length (simplified cs)
 unfolding made
@@ -313,10 +313,10 @@ unfolding isEnded
 ended-zero [] h = refl
 ended-zero (z ∷ row) h = h
 
-row-ended : (cs : List (List ℕ)) → isEnded (rowOf cs) ≡ true
+row-ended : (cs : List (List ℕ)) → isEnded (literalRow cs) ≡ true
 unfolding isEnded
 row-ended [] = ap isEnded row-nil
-row-ended (c ∷ cs) = ap isEnded (row-cons c cs) ∙ ended-append (map entryOf c) (pos 0) (rowOf cs) ∙ ended-zero (rowOf cs) (row-ended cs)
+row-ended (c ∷ cs) = ap isEnded (row-cons c cs) ∙ ended-append (map entryOf c) (pos 0) (literalRow cs) ∙ ended-zero (literalRow cs) (row-ended cs)
 
 pub made-ended : (cs : List (List ℕ)) → isEnded (made cs) ≡ true
 unfolding made
@@ -349,11 +349,11 @@ module _ (m : ℕ) where
   abbrev pub ClausesWithin : List (List ℕ) → Type 0
   ClausesWithin cs = (c : List ℕ) → List·Memᴰ c cs → Below (2 * m + 1) c
 
-  row-within : (cs : List (List ℕ)) → ClausesWithin cs → firstOver m (rowOf cs) ≡ length (rowOf cs)
+  row-within : (cs : List (List ℕ)) → ClausesWithin cs → firstOver m (literalRow cs) ≡ length (literalRow cs)
   unfolding firstOver
   row-within [] h = rw row-nil
   row-within (c ∷ cs) h =
-      rw (row-cons c cs) (clause-within c (pos 0 ∷ rowOf cs) (h c in-first) (within-more (pos 0) (rowOf cs) (omega arith) (row-within cs (λ d i. h d (List·Memᴰ·tail i)))))
+      rw (row-cons c cs) (clause-within c (pos 0 ∷ literalRow cs) (h c in-first) (within-more (pos 0) (literalRow cs) (omega arith) (row-within cs (λ d i. h d (List·Memᴰ·tail i)))))
 
   pub made-within : (cs : List (List ℕ)) → ClausesWithin cs → firstOver m (made cs) ≡ length (made cs)
   unfolding made
@@ -380,7 +380,7 @@ and-few g =
     (omega (arith, clause-few (negate (g .output) ∷ g .left ∷ []), clause-few (negate (g .output) ∷ g .right ∷ []), clause-few (g .output ∷ negate (g .left) ∷ negate (g .right) ∷ [])))
 
 pub and-entries-few : (gs : List And) → length (andEntries gs) ≤ 10 * length gs
-unfolding made rowOf simplified each keep
+unfolding made literalRow simplified each keep
 and-entries-few [] = omega arith
 and-entries-few (g ∷ gs) = rw (and-entries-cons g gs, length-append) (omega (arith, and-few g, and-entries-few gs))
 

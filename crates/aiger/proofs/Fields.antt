@@ -14,28 +14,13 @@ use lib.Dec.{eqb, leb}
 use lib.ListN.{length, getD, drop, List·getD-eq-default}
 use Rattle.clauses.specs.Bytes.{isDigit, front}
 use Rattle.clauses.specs.Number.{unsigned}
-use Rattle.clauses.specs.Reading.{then}
 use Rattle.clauses.specs.Scanning.{digitsAt}
 use Rattle.clauses.specs.declared.number.Unsigned.the-variants as U
-use Rattle.clauses.proofs.Headers.{digits-number, digits-not}
+use Rattle.clauses.proofs.Headers.{then-none, then-some, then-elim, digits-number, digits-not}
 use Rattle.clauses.proofs.Magnitudes.{unsigned-small}
 use Rattle.clauses.proofs.Words.{read-value, unsigned-empty}
 use Rattle.aiger.specs.Line.{Field, fieldAt, literalAt}
 use Rattle.aiger.specs.Scanning.{asUnsigned}
-
--- two steps: where the first is missing, or there; and where both come to something, so does the first
-pub then-none : {A B : Type 0} {o : Option A} (f : A → Option B) → o ≡ none → then o f ≡ none
-unfolding then
-then-none f e = rw e
-
-pub then-some : {A B : Type 0} {o : Option A} (f : A → Option B) (a : A) → o ≡ some a → then o f ≡ f a
-unfolding then
-then-some f a e = rw e
-
-pub then-there : {A B P : Type 0} (o : Option A) (f : A → Option B) (b : B) → then o f ≡ some b → ((a : A) → o ≡ some a → f a ≡ some b → P) → P
-unfolding then
-then-there none f b e k = let z : _≡_ {A = ℕ} 0 1 = cc in absurd (omega arith)
-then-there (some a) f b e k = k a refl e
 
 -- what a function answers of a number tells what it is
 pub number-none : (o : Option Field) → asUnsigned o ≡ U.Malformed → o ≡ none
@@ -80,7 +65,7 @@ module _ (end : ℕ) (text : List ℕ) (p : ℕ) where
   pub field-read : 0 < end → (f : Field) → fieldAt end text p ≡ some f → FieldRead f
   unfolding fieldAt
   field-read h f e =
-      then-there (unsigned Digits) _ f e (λ n u k.
+      then-elim (unsigned Digits) _ f e (λ n u k.
       cases (eqb (getD text (p + length Digits) 0) end)
       (λ t. let r = rw t at k in
       let v : n ≡ f .value = cc in
@@ -123,7 +108,7 @@ module _ (end : ℕ) (text : List ℕ) (p : ℕ) where
     pub literal-read : 0 < end → (f : Field) → literalAt m end text p ≡ some f → FieldRead f × (f .value ≤ 2 * m + 1)
     unfolding literalAt
     literal-read h f e =
-        then-there (fieldAt end text p) _ f e (λ g u k.
+        then-elim (fieldAt end text p) _ f e (λ g u k.
         cases (leb (g .value) (2 * m + 1))
         (λ t. let q = rw t at k in
         let same : g ≡ f = cc in

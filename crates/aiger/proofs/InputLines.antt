@@ -13,7 +13,8 @@ use Rattle.clauses.specs.Bytes.{lf}
 use Rattle.aiger.specs.Line.{literalAt, isNew, inputAt, faulty, inputLines}
 use Rattle.aiger.specs.Scanning.{InputsListed}
 use Rattle.aiger.specs.Tree.{Tree}
-use Rattle.aiger.proofs.Fields.{then-none, then-some, literal-read}
+use Rattle.clauses.proofs.Headers.{then-none, then-some}
+use Rattle.aiger.proofs.Fields.{literal-read}
 
 module _ (m : ℕ) (text : List ℕ) (count : ℕ) where
   -- the line at hand

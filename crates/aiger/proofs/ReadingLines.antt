@@ -33,7 +33,8 @@ use Rattle.aiger.specs.Scanning.{asHeading, clauseEntries, andEntries, R
 use Rattle.aiger.proofs.AndLines.{tally-length}
 use Rattle.aiger.proofs.CircuitLines.{and-lines-few}
 use Rattle.aiger.proofs.Entries.{made-zeros, circuit-made, circuit-entries, and-entries-few, circuit-few}
-use Rattle.aiger.proofs.Fields.{then-there, field-read}
+use Rattle.clauses.proofs.Headers.{then-elim}
+use Rattle.aiger.proofs.Fields.{field-read}
 use Rattle.aiger.proofs.Stores.{stored-all}
 
 -- What reading comes to
@@ -201,12 +202,12 @@ heading-some (some g) h e = let same : g ≡ h = cc in ap some same
 pub header-within : (text : List ℕ) (h : Header) → headerOf text ≡ some h → h .lines ≤ length text
 unfolding headerOf theHeader
 header-within text h e =
-    then-there _ _ h e (λ r q0 e0.
-    then-there _ _ h e0 (λ m q1 e1.
-    then-there _ _ h e1 (λ i q2 e2.
-    then-there _ _ h e2 (λ l q3 e3.
-    then-there _ _ h e3 (λ o q4 e4.
-    then-there _ _ h e4 (λ a q5 e5.
+    then-elim _ _ h e (λ r q0 e0.
+    then-elim _ _ h e0 (λ m q1 e1.
+    then-elim _ _ h e1 (λ i q2 e2.
+    then-elim _ _ h e2 (λ l q3 e3.
+    then-elim _ _ h e3 (λ o q4 e4.
+    then-elim _ _ h e4 (λ a q5 e5.
     let same : a .next ≡ h .lines = ap {B = ℕ} (λ (x : Option Header). theHeader x .lines) e5 in
     omega (arith, same, field-read lf text (o .next) (omega arith) a q5 .within)))))))
 

@@ -1,5 +1,5 @@
--- Which refusals reading can give where the row has room for the entries of any text: never 4, and never 6, 7 or 10 to 12. M is at least the number of AND
--- lines, so that where it is not over 1,024 there are few clauses.
+-- Which refusals reading can give: never 6, 7 or 10 to 12, since M is at least the number of AND lines, so that where it is not over 1,024 there are few
+-- clauses; and never 4 where the row has room for the entries of any text.
 -- Assumes nothing.
 use mathlib.Core.Path.{_≡_, refl}
 use mathlib.Core.Bool.{true, false}
@@ -31,7 +31,7 @@ use Rattle.aiger.proofs.Entries.{LiteralsWithin, circuit-few, clauses-f
 use Rattle.aiger.proofs.CircuitLines.{circuit-read}
 use Rattle.aiger.proofs.ReadingLines.{text-long}
 
--- what reading can give
+-- what reading can give, but for the row's room
 abbrev pub readingNumbers : List ℕ
 readingNumbers = 1 ∷ 15 ∷ 16 ∷ 17 ∷ 18 ∷ 5 ∷ []
 
@@ -77,31 +77,36 @@ module _ (text : List ℕ) (row : List ℤ) where
   unfolding reading readingTests lineTests circuitTests numbersTests sizesOf circuitOf First Last
   parts = decide-append (refused row) Accepted First (tooManyNets (k .nets) ∷ Last)
 
-  first-among : length (entriesOf k) ≤ length row → all (isAmong readingNumbers) First ≡ true
-  unfolding all any mem isAmong First
-  first-among h = rw (le-ltb _ _ h)
-
   -- a circuit of at most 1,024 nets has as many AND lines at most
   last-fails : k .nets ≤ maxNets → length (k .ands) ≤ k .nets → NoneHolds Last
   unfolding Last
   last-fails m n =
       (le-ltb maxClauses (length (circuitClauses k)) (omega (arith, clauses-few k)), (le-ltb maxEntries (length (entriesOf k)) (omega (arith, circuit-few k)), circuit-tests k (circuit-of .0)))
 
-  behind-nets : NoneHolds First → Among readingNumbers (decide (refused row) Accepted (tooManyNets (k .nets) ∷ Last))
-  unfolding First linesOf circuitOf any mem
-  behind-nets n =
-      cases (ltb maxNets (k .nets))
-      (λ t. rw (decide-first (refused row) Accepted (tooManyNets (k .nets)) Last t) (refused-among readingNumbers row TooManyNets refl))
-      (λ t. rw
-      (decide-accepted (refused row) Accepted (tooManyNets (k .nets) ∷ Last)
-      (t, last-fails (ltb-false maxNets (k .nets) t) (lines-few _ text (header-few (headerOf text) (n .1 .0)) (linesOf text) refl)))
-      (accepted-among readingNumbers row _ _))
+  module _ (ns : List ℕ) (nets : mem 5 ns ≡ true) (first : all (isAmong ns) First ≡ true) where
+    behind-nets : NoneHolds First → Among ns (decide (refused row) Accepted (tooManyNets (k .nets) ∷ Last))
+    unfolding First linesOf circuitOf
+    behind-nets n =
+        cases (ltb maxNets (k .nets))
+        (λ t. rw (decide-first (refused row) Accepted (tooManyNets (k .nets)) Last t) (refused-among ns row TooManyNets nets))
+        (λ t. rw
+        (decide-accepted (refused row) Accepted (tooManyNets (k .nets) ∷ Last)
+        (t, last-fails (ltb-false maxNets (k .nets) t) (lines-few _ text (header-few (headerOf text) (n .1 .0)) (linesOf text) refl)))
+        (accepted-among ns row _ _))
 
-  pub reading-refusals : 109222 ≤ length row → (r : Refusal) → reading text row .result ≡ Refused r → mem (numberOf r) readingNumbers ≡ true
-  unfolding Among any mem
-  reading-refusals room =
+    refusals-among : Among ns (reading text row)
+    refusals-among = rw parts (decide-among (refused row) _ (Among ns) ns (refused-among ns row) First first behind-nets)
+
+  -- with any row, and with one that has room for the entries of any text
+  pub reading-refusals : (r : Refusal) → reading text row .result ≡ Refused r → mem (numberOf r) (4 ∷ readingNumbers) ≡ true
+  unfolding Among all any mem isAmong First
+  reading-refusals = refusals-among (4 ∷ readingNumbers) refl refl
+
+  pub reading-refusals-room : 109222 ≤ length row → (r : Refusal) → reading text row .result ≡ Refused r → mem (numberOf r) readingNumbers ≡ true
+  unfolding Among all any mem isAmong First
+  reading-refusals-room room =
       cases (ltb maxText (length text)) (λ t. rw (← text-long text row (ltb-true maxText (length text) t)) (refused-among readingNumbers row TextTooLong refl))
       (λ t. let few = circuit-of .1 in
       let short = ltb-false maxText (length text) t in
-      rw parts
-      (decide-among (refused row) _ (Among readingNumbers) readingNumbers (refused-among readingNumbers row) First (first-among (omega (arith, circuit-few k))) behind-nets))
+      let room-for : length (entriesOf k) ≤ length row = omega (arith, circuit-few k) in
+      refusals-among readingNumbers refl (rw (le-ltb _ _ room-for)))

@@ -54,5 +54,5 @@ unfoldable pub entryOf : ℕ → ℤ
 entryOf x = signed (eqb (x % 2) 1) (net x)
 
 -- document 01's literal row: 'clauses one after another, each ended by 0'
-unfoldable pub rowOf : List (List ℕ) → List ℤ
-rowOf cs = each cs (λ c. map entryOf c ++ (pos 0 ∷ []))
+unfoldable pub literalRow : List (List ℕ) → List ℤ
+literalRow cs = each cs (λ c. map entryOf c ++ (pos 0 ∷ []))

@@ -13,7 +13,7 @@ use Rattle.clauses.specs.Reading.{Sizes, Outcome, refused, accepted, numbersTes
 use Rattle.clauses.specs.declared.refusal.Refusal.{Refusal}
 use Rattle.clauses.specs.declared.refusal.Refusal.the-variants.{AigerHeader, LatchesOrOutputs, AigerLine, AndOutput}
 use Rattle.aiger.specs.declared.header.Header.{Header}
-use Rattle.aiger.specs.Circuit.{Circuit, circuitClauses, rowOf}
+use Rattle.aiger.specs.Circuit.{Circuit, circuitClauses, literalRow}
 use Rattle.aiger.specs.Line.{headerOf, Lines, said, faulty, circuitLines, badOutput}
 
 -- a test that holds where there is a place, and gives it
@@ -61,7 +61,7 @@ sizesOf k = record { nets = k .nets; clauses = length (circuitClauses k) }
 
 -- the entries made
 unfoldable pub entriesOf : Circuit → List ℤ
-entriesOf k = rowOf (circuitClauses k)
+entriesOf k = literalRow (circuitClauses k)
 
 -- 18. 'an AND output that is odd, 0, an input or set before' (place: the output's); and the tests 4 to 7 and 10 to 12 of document 01, which 'count the
 -- entries made'

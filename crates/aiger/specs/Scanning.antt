@@ -27,7 +27,7 @@ use Rattle.aiger.specs.declared.ands.AndLine.{AndLine}
 use Rattle.aiger.specs.declared.ands.AndLine.the-variants as G
 use Rattle.aiger.specs.declared.ands.Scan.{Scan}
 use Rattle.aiger.specs.declared.ands.Scan.the-variants as S
-use Rattle.aiger.specs.Circuit.{Circuit, andClauses, simplified, entryOf, rowOf}
+use Rattle.aiger.specs.Circuit.{Circuit, andClauses, simplified, entryOf, literalRow}
 use Rattle.aiger.specs.Line.{Field, AndField, Lines, said, faulty, inputLines, isNew, badOutput}
 use Rattle.aiger.specs.Reading.{sizesOf, entriesOf, lineTests, theCircuit}
 use Rattle.aiger.specs.Tree.{Tree}
@@ -66,7 +66,7 @@ isTrue x y = eqb x 1 || eqb x (negate y)
 
 -- the entries that clauses make, simplified
 unfoldable pub made : List (List ℕ) → List ℤ
-made cs = rowOf (simplified cs)
+made cs = literalRow (simplified cs)
 
 abbrev pub clauseEntries : List ℕ → List ℤ
 clauseEntries c = made (c ∷ [])

@@ -62,7 +62,7 @@ fn read_ands(
     }
 }
 
-// Reads the lines behind the header. A text has at most half as many lines as bytes, so the tree has room for the nets of all.
+// Reads the lines behind the header. A line that is read has at least two bytes, so the tree has room for the nets of all.
 fn read_lines(text: &[u8], h: Header, row: &mut [i32]) -> Reading
     requires { ⌜ (h .lines ≤ length (now text)) × (length (now text) ≤ maxText) ⌝ }
     ensures { λ r. ⌜ record { result = r; row = now (row .exit) } ≡ readLines (now (row .entry)) (circuitLines h (now (text .entry))) ⌝ }

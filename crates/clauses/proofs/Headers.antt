@@ -15,13 +15,31 @@ use lib.ListN.{length, getD, drop, drop-of-length-le, length-drop}
 use lib.Seq.{drop-cons, drop-drop}
 use Rattle.clauses.specs.Bytes.{letter-c, isBlank, isGap, isDigit, every, front, behind}
 use Rattle.clauses.specs.Number.{unsigned}
-use Rattle.clauses.specs.Reading.{isComment, isPassed, after, afterGap}
+use Rattle.clauses.specs.Reading.{isComment, isPassed, after, afterGap, then}
 use Rattle.clauses.specs.Scanning.{digitsAt, Reaches}
 use Rattle.clauses.specs.declared.header.PartEnd.{PartEnd}
 use Rattle.clauses.specs.declared.header.PartEnd.the-variants as S
 use Rattle.clauses.specs.declared.number.Unsigned.the-variants as U
 use Rattle.clauses.proofs.Runs.{run-within}
 use Rattle.clauses.proofs.Words.{read-value, no-unsigned, unsigned-empty}
+
+-- Two steps: where the first is missing, or there; and where both come to something
+
+pub then-none : {A B : Type 0} {o : Option A} (f : A → Option B) → o ≡ none → then o f ≡ none
+unfolding then
+then-none f e = rw e
+
+pub then-some : {A B : Type 0} {o : Option A} (f : A → Option B) (a : A) → o ≡ some a → then o f ≡ f a
+unfolding then
+then-some f a e = rw e
+
+pub then-there : {A B : Type 0} (o : Option A) (f : A → Option B) (b : B) → then o f ≡ some b → (a : A) × (o ≡ some a) × (f a ≡ some b)
+unfolding then
+then-there none f b e = let z : _≡_ {A = ℕ} 0 1 = cc in absurd (omega arith)
+then-there (some a) f b e = (a, refl, e)
+
+pub then-elim : {A B P : Type 0} (o : Option A) (f : A → Option B) (b : B) → then o f ≡ some b → ((a : A) → o ≡ some a → f a ≡ some b → P) → P
+then-elim o f b e k = let t = then-there o f b e in k (t .0) (t .1) (t .2)
 
 -- The bytes of a word, compared one by one
 

@@ -13,8 +13,9 @@ use lib.IntN.{ℤ}
 use lib.ListN.{length, length-append}
 use Rattle.clauses.specs.Bytes.{lf, isBlank, isGap, isDigit, front, behind, Stretch, widen, split}
 use Rattle.clauses.specs.Number.{unsigned, number}
-use Rattle.clauses.specs.Reading.{lines, isComment, isPassed, after, afterGap, then, Sizes, afterFormat, sizes, headerLine, sized, asHeader, heading, nonEmpty, words, wordsOf, Body, body, headingOf}
+use Rattle.clauses.specs.Reading.{lines, isComment, isPassed, after, afterGap, Sizes, afterFormat, sizes, headerLine, sized, asHeader, heading, nonEmpty, words, wordsOf, Body, body, headingOf}
 use Rattle.clauses.specs.Scanning.{numbersOf}
+use Rattle.clauses.proofs.Headers.{then-there}
 use Rattle.clauses.proofs.Splitting.{front-behind}
 use Rattle.clauses.proofs.Words.{unsigned-empty}
 use Rattle.clauses.proofs.ReadingTests.{body-entries}
@@ -66,12 +67,6 @@ numbers-words (w ∷ ws) = go (number (w .bytes)) refl (numbers-words ws)
 
 -- The header
 
--- the second of two steps, where both were made
-then-some : {A B : Type 0} (o : Option A) (f : A → Option B) (b : B) → then o f ≡ some b → (a : A) × (o ≡ some a) × (f a ≡ some b)
-unfolding then
-then-some none f b e = let z : _≡_ {A = ℕ} 0 1 = cc in absurd (omega arith)
-then-some (some a) f b e = (a, refl, e)
-
 after-length : (w l r : List ℕ) → after w l ≡ some r → length l ≡ length w + length r
 unfolding after
 after-length [] l r e = let same : l ≡ r = cc in rw same (omega arith)
@@ -101,22 +96,22 @@ digits-length (b ∷ w) n e = omega arith
 format-length : (line r : List ℕ) → afterFormat line ≡ some r → 6 + length r ≤ length line
 unfolding afterFormat
 format-length line r e =
-    let p = then-some _ _ r e in
-    let g = then-some _ _ r (p .2) in
-    let f = then-some _ _ r (g .2) in
+    let p = then-there _ _ r e in
+    let g = then-there _ _ r (p .2) in
+    let f = then-there _ _ r (g .2) in
     omega (arith, after-length _ line (p .0) (p .1), gap-length (p .0) (g .0) (g .1), after-length _ (g .0) (f .0) (f .1), gap-length (f .0) r (f .2))
 
 sizes-length : (l : List ℕ) (s : Sizes) → sizes l ≡ some s → 3 ≤ length l
 unfolding sizes
 sizes-length l s e =
-    let v = then-some _ _ s e in
-    let g = then-some _ _ s (v .2) in
-    let c = then-some _ _ s (g .2) in
+    let v = then-there _ _ s e in
+    let g = then-there _ _ s (v .2) in
+    let c = then-there _ _ s (g .2) in
     omega (arith, digits-length _ (v .0) (v .1), behind-length isDigit l, gap-length (behind isDigit l) (g .0) (g .1), digits-length _ (c .0) (c .1), behind-length isDigit (g .0))
 
 header-length : (line : List ℕ) (s : Sizes) → headerLine line ≡ some s → 9 ≤ length line
 unfolding headerLine
-header-length line s e = let f = then-some _ _ s e in omega (arith, format-length line (f .0) (f .1), sizes-length (f .0) s (f .2))
+header-length line s e = let f = then-there _ _ s e in omega (arith, format-length line (f .0) (f .1), sizes-length (f .0) s (f .2))
 
 heading-span : (n : ℕ) (ls : List Stretch) (s : Sizes) (rest : List Stretch) → heading n ls ≡ sized s rest → span rest + 10 ≤ span ls
 unfolding heading span asHeader

@@ -184,7 +184,7 @@ comparing-aiger-refusals input text r = go (Aiger.reading input emptyAigerRow .r
         → mem (numberOf r) compareAigerNumbers ≡ true
     go (R.Refused q) e h =
         let same : q ≡ r = cc in
-        in-mem compareAigerNumbers (Memᴰ·append-left (13 ∷ []) (mem-in (numberOf r) AigerRefusals.readingNumbers (rw same at (AigerRefusals.reading-refusals input emptyAigerRow (rw (length-replicate {A = ℤ} 109222 (pos 0)) (omega arith)) q e))))
+        in-mem compareAigerNumbers (Memᴰ·append-left (13 ∷ []) (mem-in (numberOf r) AigerRefusals.readingNumbers (rw same at (AigerRefusals.reading-refusals-room input emptyAigerRow (rw (length-replicate {A = ℤ} 109222 (pos 0)) (omega arith)) q e))))
     go (R.Accepted s) e h =
         let row = take (s .entries) (Aiger.reading input emptyAigerRow .row) in
         let none = none-holds-append (sizeTests (s .nets) (s .clauses) row) (entryTests (s .nets) (s .clauses) row) (AigerAnswers.read-tests input emptyAigerRow s e) in

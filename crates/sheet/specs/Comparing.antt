@@ -22,13 +22,14 @@ pub record Outcome : Type 0 where
 abbrev pub emptyRow : List ℤ
 emptyRow = replicate 32763 (pos 0)
 
--- 'The program reads DIMACS text from standard input, uses round limit V + 1 and prints the sheet'
+-- the sheet of what was read, under round limit V + 1, or why it is turned away
 unfoldable pub sheetOf : Reading → List ℤ → List ℕ → Outcome
 sheetOf (R.Refused r) row text = record { result = Refused r; text = text }
 sheetOf (R.Accepted s) row text =
     let o = writing (s .nets) (s .clauses) (take (s .entries) row) (s .nets + 1) (replicate 1024 0) (replicate maxWork 0) text in
     record { result = o .result; text = o .text }
 
+-- 'The program reads DIMACS text from standard input, uses round limit V + 1 and prints the sheet'
 unfoldable pub comparing : List ℕ → List ℕ → Outcome
 comparing input text = sheetOf (reading input emptyRow .result) (reading input emptyRow .row) text
 

@@ -3,7 +3,8 @@
 use mathlib.Core.Path.{sym, _∙_, ap}
 use Rattle.aiger.specs.Line.{andAt}
 use Rattle.aiger.specs.Scanning.{asAndLine}
-use Rattle.aiger.proofs.Fields.{then-none, then-some, number-none, number-some}
+use Rattle.clauses.proofs.Headers.{then-none, then-some}
+use Rattle.aiger.proofs.Fields.{number-none, number-some}
 use borrow.Author.Needs.{needs}
 use Rattle.aiger.proofs.ands.read_and.Statement.{statement}
 use Rattle.aiger.proofs.ands.read_and.Tie as tie

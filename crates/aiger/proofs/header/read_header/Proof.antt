@@ -2,10 +2,10 @@
 -- Assumes nothing.
 use mathlib.Core.Path.{sym, _∙_, ap}
 use native.Mathlib.Omega.{arith}
-use Rattle.clauses.proofs.Headers.{step-missing, step-reached}
+use Rattle.clauses.proofs.Headers.{then-none, then-some, step-missing, step-reached}
 use Rattle.aiger.specs.Line.{headerOf}
 use Rattle.aiger.specs.Scanning.{asHeading}
-use Rattle.aiger.proofs.Fields.{then-none, then-some, number-none, number-some}
+use Rattle.aiger.proofs.Fields.{number-none, number-some}
 use borrow.Author.Needs.{needs}
 use Rattle.aiger.proofs.header.read_header.Statement.{statement}
 use Rattle.aiger.proofs.header.read_header.Tie as tie
