@@ -1,19 +1,22 @@
 -- Each clause of a row of codes stands, as a set, at one place that is the first of its set.
 -- Assumes nothing.
 use mathlib.Core.Path.{_≡_, refl, _∙_, ap, subst⁻¹}
-use mathlib.Core.Bool.{true, false≢true}
+use mathlib.Core.Bool.{true, false, false≢true}
 use mathlib.Core.List.{List}
-use Prim.Native.Nat.{ℕ}
+use Prim.Native.Nat.{ℕ, _≤_, _<_}
+use native.Mathlib.Omega.{arith}
 use borrow.Author.Tests.{eq-eqb, eqb-true}
+use borrow.Table.Steps.{cases}
 use Rattle.clauses.specs.Clause.{Same, Present, clausesIn}
-use Rattle.clauses.proofs.Clauses.{same-sym, same-trans}
+use Rattle.clauses.specs.Listing.{sameSet}
+use Rattle.clauses.proofs.Clauses.{same-is, same-refl, same-sym, same-trans}
 use Rattle.gates.specs.declared.search.Place.{Place}
 use Rattle.gates.specs.declared.search.Place.the-variants.{At, Nothing}
 use Rattle.gates.specs.Found.{clauseAt, Starts}
 use Rattle.gates.specs.Search.{firstPlace}
 use Rattle.gates.specs.Mark.{isAt, isFirst}
 use Rattle.gates.proofs.Rows.{listed-starts}
-use Rattle.gates.proofs.Places.{First, place-first, place-nothing, first-only, first-place}
+use Rattle.gates.proofs.Places.{Passed, First, place-first, place-nothing, first-only, first-place}
 
 module _ (row : List ℕ) where
   pub first-same : {q r : List ℕ} {b : ℕ} → Same q r → First row q b → First row r b
@@ -30,6 +33,14 @@ module _ (row : List ℕ) where
   pub is-first : (b : ℕ) → First row (clauseAt row b) b → isFirst row b ≡ true
   unfolding isFirst isAt
   is-first b f = rw (first-place row (clauseAt row b) f) (eq-eqb b b refl)
+
+  -- a search for its set has found none before it
+  pub passed-first : (a b : ℕ) → Starts row b → Passed row (clauseAt row b) a → b ≤ a → isFirst row b ≡ true
+  passed-first a b s k l = is-first b (record { start = s; same = same-refl (clauseAt row b); least = λ p h. k .none p (omega arith) })
+
+  -- .. or one
+  pub later-copy : (a b : ℕ) → Starts row a → a < b → sameSet (clauseAt row b) (clauseAt row a) ≡ true → isFirst row b ≡ false
+  later-copy a b s l e = cases (isFirst row b) (λ t. absurd (first-is b t .least a l s (same-is (clauseAt row b) (clauseAt row a) e))) (λ t. t)
 
   -- no two of one set
   pub first-once : (a b : ℕ) → isFirst row a ≡ true → isFirst row b ≡ true → Same (clauseAt row a) (clauseAt row b) → a ≡ b

@@ -10,6 +10,7 @@ pub mod MoreClauses
 pub mod Rows
 pub mod Places
 pub mod Walks
+pub mod LiteralPlaces
 pub mod Fills
 pub mod Normalising
 pub mod NormalForm

@@ -122,10 +122,12 @@ module _ (row q : List ℕ) (b : ℕ) (o : Once q) where
       short (yes l) = absurd (literal-some row b (b + length q) (omega arith) (omega arith) z)
       short (no n) = omega arith
 
-  pub same-longer : Normal row → Starts row b → getD row (b + length q) 0 ≢ 0 → sameSet q (clauseAt row b) ≡ false
-  same-longer normal s n =
+  -- one with more literals than they are, or fewer, is another clause
+  pub sizes-apart : Normal row → Starts row b → length q ≢ length (clauseAt row b) → sameSet q (clauseAt row b) ≡ false
+  sizes-apart normal s n =
       cases (sameSet q (clauseAt row b))
-      (λ t.
-      let e = perm-length (perm-of-same q (clauseAt row b) (once-distinct o) (clause-distinct normal b s) (same-is q (clauseAt row b) t)) in
-      absurd (n (rw e (clause-ended row b))))
+      (λ t. absurd (n (perm-length (perm-of-same q (clauseAt row b) (once-distinct o) (clause-distinct normal b s) (same-is q (clauseAt row b) t)))))
       (λ t. t)
+
+  pub same-longer : Normal row → Starts row b → getD row (b + length q) 0 ≢ 0 → sameSet q (clauseAt row b) ≡ false
+  same-longer normal s n = sizes-apart normal s (λ e. n (rw e (clause-ended row b)))

@@ -150,10 +150,13 @@ mem-at [] k h = absurd (omega arith)
 mem-at (y ∷ l) zero h = List·Memᴰ·head refl
 mem-at (y ∷ l) (suc k) h = List·Memᴰ·tail (mem-at l k (omega arith))
 
-pub literal-in : (row : List ℕ) (b p : ℕ) → LiteralAt row b p → Mem (getD row p 0) (clauseAt row b)
-literal-in row b p h =
+pub place-in : (row : List ℕ) (b p : ℕ) → b ≤ p → p < b + length (clauseAt row b) → Mem (getD row p 0) (clauseAt row b)
+place-in row b p l h =
     let s : b + (p - b) ≡ p = omega arith in
     subst (λ (x : ℕ). Mem x (clauseAt row b)) (clause-at row b (p - b) (omega arith) ∙ ap (λ (i : ℕ). getD row i 0) s) (mem-at (clauseAt row b) (p - b) (omega arith))
+
+pub literal-in : (row : List ℕ) (b p : ℕ) → LiteralAt row b p → Mem (getD row p 0) (clauseAt row b)
+literal-in row b p h = place-in row b p (h .low) (h .high)
 
 pub record LiteralOf (row : List ℕ) (b x : ℕ) : Type 0 where
   pub place : ℕ

@@ -8,7 +8,7 @@ use Prim.Native.Nat.{ℕ, _+_, _≤_, _<_}
 use native.Mathlib.Numerals.{add-one}
 use lib.ListN.{length, getD, drop, drop-of-length-le}
 use lib.Seq.{drop-cons}
-use borrow.Author.Tests.{eq-eqb, ne-eqb}
+use borrow.Author.Tests.{ne-eqb}
 use Rattle.clauses.specs.Lists.{any, all}
 use Rattle.clauses.specs.Listing.{mem, within, sameSet}
 use Rattle.gates.specs.Found.{clauseAt}
@@ -17,10 +17,6 @@ use Rattle.gates.proofs.Rows.{clause-stops, clause-goes-on}
 mem-none : (x : ℕ) → mem x [] ≡ false
 unfolding mem any
 mem-none x = refl
-
-mem-here : (x y : ℕ) (c : List ℕ) → y ≡ x → mem x (y ∷ c) ≡ true
-unfolding mem any
-mem-here x y c e = rw (eq-eqb x y (sym e), any)
 
 mem-later : (x y : ℕ) (c : List ℕ) → y ≢ x → mem x (y ∷ c) ≡ mem x c
 unfolding mem any
@@ -42,6 +38,10 @@ pub same-no : (c d : List ℕ) → within c d ≡ false → sameSet c d ≡ fals
 unfolding sameSet
 same-no c d e = rw e
 
+pub same-other : (c d : List ℕ) → within c d ≡ true → sameSet c d ≡ within d c
+unfolding sameSet
+same-other c d e = rw e
+
 -- codes from place i on
 module _ (q : List ℕ) (i : ℕ) where
   pub from-end : length q ≤ i → drop i q ≡ []
@@ -61,12 +61,20 @@ module _ (q : List ℕ) (i : ℕ) where
     all-on h e = ap (λ (c : List ℕ). within c d) (from-on h) ∙ within-yes (getD q i 0) (drop (i + 1) q) d e
 
 -- a clause from place i on
-module _ (row : List ℕ) (i x : ℕ) where
-  pub holds-stop : getD row i 0 ≡ 0 → mem x (clauseAt row i) ≡ false
-  holds-stop e = ap (mem x) (clause-stops row i e) ∙ mem-none x
+module _ (row : List ℕ) (i : ℕ) where
+  module _ (x : ℕ) where
+    pub holds-stop : getD row i 0 ≡ 0 → mem x (clauseAt row i) ≡ false
+    holds-stop e = ap (mem x) (clause-stops row i e) ∙ mem-none x
 
-  pub holds-here : getD row i 0 ≢ 0 → getD row i 0 ≡ x → mem x (clauseAt row i) ≡ true
-  holds-here n e = ap (mem x) (clause-goes-on row i n) ∙ mem-here x (getD row i 0) (clauseAt row (i + 1)) e
+    pub holds-on : getD row i 0 ≢ 0 → getD row i 0 ≢ x → mem x (clauseAt row i) ≡ mem x (clauseAt row (i + 1))
+    holds-on n m = ap (mem x) (clause-goes-on row i n) ∙ mem-later x (getD row i 0) (clauseAt row (i + 1)) m
 
-  pub holds-on : getD row i 0 ≢ 0 → getD row i 0 ≢ x → mem x (clauseAt row i) ≡ mem x (clauseAt row (i + 1))
-  holds-on n m = ap (mem x) (clause-goes-on row i n) ∙ mem-later x (getD row i 0) (clauseAt row (i + 1)) m
+  module _ (d : List ℕ) where
+    pub within-stop : getD row i 0 ≡ 0 → within (clauseAt row i) d ≡ true
+    within-stop e = ap (λ (c : List ℕ). within c d) (clause-stops row i e) ∙ within-none d
+
+    pub within-out : getD row i 0 ≢ 0 → mem (getD row i 0) d ≡ false → within (clauseAt row i) d ≡ false
+    within-out n e = ap (λ (c : List ℕ). within c d) (clause-goes-on row i n) ∙ within-no (getD row i 0) (clauseAt row (i + 1)) d e
+
+    pub within-on : getD row i 0 ≢ 0 → mem (getD row i 0) d ≡ true → within (clauseAt row i) d ≡ within (clauseAt row (i + 1)) d
+    within-on n e = ap (λ (c : List ℕ). within c d) (clause-goes-on row i n) ∙ within-yes (getD row i 0) (clauseAt row (i + 1)) d e

@@ -1,12 +1,13 @@
 -- The search for a clause in a row of codes.
 -- Assumes nothing.
 use mathlib.Core.Path.{_≡_}
-use mathlib.Core.Bool.{cond}
+use mathlib.Core.Bool.{false, cond}
 use mathlib.Core.List.{List, [], _∷_, List·Memᴰ}
-use Prim.Native.Nat.{ℕ, _+_}
-use lib.ListN.{length}
+use Prim.Native.Nat.{ℕ, _+_, _≤_, _<_}
+use lib.ListN.{length, getD}
 use Rattle.clauses.specs.Clause.{clausesIn, Tautology}
-use Rattle.clauses.specs.Listing.{sameSet, literals}
+use Rattle.clauses.specs.Listing.{mem, sameSet, literals}
+use Rattle.gates.specs.Found.{clauseAt}
 use Rattle.gates.specs.declared.search.Place.{Place}
 use Rattle.gates.specs.declared.search.Place.the-variants.{At, Nothing}
 
@@ -27,3 +28,10 @@ Proper row = (c : List ℕ) → List·Memᴰ c (clausesIn row) → ¬ Tautology 
 -- what is searched for has no literal twice
 abbrev pub Once : List ℕ → Type 0
 Once q = literals q ≡ q
+
+-- p is a place of x in the clause that starts at b, or the clause's end if x is none of its literals
+pub record PlaceOf (row : List ℕ) (b x p : ℕ) : Type 0 where
+  pub low : b ≤ p
+  pub high : p ≤ b + length (clauseAt row b)
+  pub here : p < b + length (clauseAt row b) → getD row p 0 ≡ x
+  pub none : p ≡ b + length (clauseAt row b) → mem x (clauseAt row b) ≡ false

@@ -3,26 +3,43 @@
 ghost use mathlib.Core.Path.{_≡_};
 ghost use Prim.Native.Nat.{_≤_};
 ghost use lib.ListN.{length};
-ghost use Rattle.gates.specs.Found.{Starts};
-ghost use Rattle.gates.specs.Search.{firstPlace, Once};
+ghost use Rattle.clauses.specs.Listing.{sameSet};
+ghost use Rattle.gates.specs.Found.{clauseAt, Starts};
 ghost use Rattle.gates.specs.Index.{Indexed};
 ghost use Rattle.gates.specs.Normal.{Normal};
-ghost use Rattle.gates.specs.Mark.{Spans, isAt, isCandidate, kindOf, Kinds};
+ghost use Rattle.gates.specs.Mark.{Spans, isFirst, isCandidate, kindOf, Kinds};
+use crate::index::BUCKETS;
+use crate::index::bucket_at;
 use crate::place::clause_end;
-use crate::search::Place;
-use crate::search::find;
+use crate::same::is_same_set;
 
-// Whether the first clause with the literals of q starts at b.
-fn is_found_at(codes: &[u32], index: &[u32], q: &[u32], b: usize) -> bool
+// Whether the clause from b to end and that at a are equal as sets. They are compared only if one has as many literals as the other.
+fn is_equal(codes: &[u32], b: usize, end: usize, a: usize) -> bool
+    requires { ⌜ Normal (now codes) ⌝ }
+    requires { ⌜ Spans (now codes) b end × Starts (now codes) b × Starts (now codes) a ⌝ }
+    ensures { λ r. ⌜ r ≡ sameSet (clauseAt (now (codes .entry)) b) (clauseAt (now (codes .entry)) a) ⌝ }
+{
+    if clause_end(codes, a) - a != end - b {
+        return false;
+    }
+    is_same_set(codes, b, a)
+}
+
+// Whether the clause from b to end is the first of its set. Of the clauses before it those of its bucket are met.
+fn is_first(codes: &[u32], index: &[u32], b: usize, end: usize) -> bool
     requires { ⌜ Indexed (now codes) (now index) ⌝ }
     requires { ⌜ Normal (now codes) ⌝ }
-    requires { ⌜ Once (now q) ⌝ }
-    ensures { λ r. ⌜ r ≡ isAt b (firstPlace (now (codes .entry)) (now (q .entry))) ⌝ }
+    requires { ⌜ Spans (now codes) b end × Starts (now codes) b ⌝ }
+    ensures { λ r. ⌜ r ≡ isFirst (now (codes .entry)) b ⌝ }
 {
-    match find(codes, index, q) {
-        Place::At(a) => a == b,
-        Place::Nothing => false,
+    let mut a = index[bucket_at(codes, b)] as usize;
+    while a < b {
+        if is_equal(codes, b, end, a) {
+            return false;
+        }
+        a = index[BUCKETS + a] as usize;
     }
+    true
 }
 
 // Whether the clause from b to end has three literals or more and is the first of its set.
@@ -35,7 +52,7 @@ fn is_candidate(codes: &[u32], index: &[u32], b: usize, end: usize) -> bool
     if end - b < 3 {
         return false;
     }
-    is_found_at(codes, index, &codes[b..end], b)
+    is_first(codes, index, b, end)
 }
 
 // The kind of the clause from b to end: 2 for such a one of three literals, 1 for a longer one, 0 for any other clause.

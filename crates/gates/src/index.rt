@@ -44,7 +44,7 @@ pub fn bucket_of(q: &[u32]) -> usize
 }
 
 // The bucket of the clause at b.
-fn bucket_at(codes: &[u32], b: usize) -> usize
+pub fn bucket_at(codes: &[u32], b: usize) -> usize
     requires { ⌜ Normal (now codes) × Starts (now codes) b ⌝ }
     ensures { λ r. ⌜ r ≡ bucketOf (clauseAt (now (codes .entry)) b) ⌝ }
 {

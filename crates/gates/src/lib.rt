@@ -13,5 +13,6 @@ mod mark;
 mod normal;
 pub mod place;
 mod prepare;
+pub mod same;
 mod search;
 mod xor;

@@ -3,6 +3,7 @@
 use crate::index::BUCKETS;
 use crate::index::bucket_of;
 use crate::place::literal;
+use crate::place::place_of;
 ghost use mathlib.Core.Path.{_≡_};
 ghost use Rattle.clauses.specs.Clause.{clausesIn};
 ghost use Rattle.clauses.specs.Listing.{mem, present};
@@ -21,14 +22,8 @@ pub enum Place {
 pub fn holds(codes: &[u32], b: usize, x: u32) -> bool
     ensures { λ r. ⌜ r ≡ mem x (clauseAt (now (codes .entry)) b) ⌝ }
 {
-    let mut i = b;
-    while literal(codes, i) != 0 {
-        if literal(codes, i) == x {
-            return true;
-        }
-        i += 1;
-    }
-    false
+    let p = place_of(codes, b, x);
+    literal(codes, p) != 0
 }
 
 // The first clause with exactly the literals of q: it holds all of them, and it ends behind as many.
