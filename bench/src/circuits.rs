@@ -2,10 +2,11 @@
 //! table of nets could help in finding what is listed or set twice. Times are medians of processor time beyond an empty run; the
 //! last column is the time beside that of inputs in order, in the same run.
 
+mod beyond;
 mod process;
 
+use beyond::{beyond, once};
 use std::path::Path;
-use std::process::Command;
 
 /// The bytes that a text may have.
 const MOST: usize = 65_536;
@@ -16,7 +17,7 @@ const STEP: usize = 65_536;
 fn main() {
     let arguments: Vec<String> = std::env::args().skip(1).collect();
     let [program, runs] = &arguments[..] else { panic!("circuits PROGRAM RUNS") };
-    let runs: usize = runs.parse().expect("a number of runs");
+    let (program, runs) = (Path::new(program), runs.parse().expect("a number of runs"));
     let folder = std::env::temp_dir().join(format!("circuits.{}", std::process::id()));
     std::fs::create_dir(&folder).expect("a folder for the texts");
     let write = |(title, text): (&'static str, String)| {
@@ -29,38 +30,23 @@ fn main() {
     let entries: Vec<_> = texts().into_iter().map(write).collect();
     println!(
         "An empty circuit takes {:.2} ms from the start of the process to its end.\n",
-        start(Path::new(program), &empty, runs)
+        process::median(&mut (0..runs).map(|_| once(program, &empty).milliseconds).collect::<Vec<_>>())
     );
     println!("| text | bytes | answer | product, ms | beside the first |\n|---|--:|---|--:|--:|");
     let mut first = None;
     for (title, bytes, path) in &entries {
-        let (work, answer) = measure(Path::new(program), path, &empty, runs);
+        let (work, answer) = measure(program, path, &empty, runs);
         let beside = work / *first.get_or_insert(work);
         println!("| {title} | {bytes} | {answer} | {work:.2} | {beside:.1} |");
     }
     std::fs::remove_dir_all(&folder).expect("the folder can be removed");
 }
 
-fn once(program: &Path, input: &Path) -> process::Ran {
-    process::run(&mut Command::new(program), input, 100).expect("the program can be run")
-}
-
-fn median(mut times: Vec<f64>) -> f64 {
-    times.sort_by(f64::total_cmp);
-    times[times.len() / 2]
-}
-
-fn start(program: &Path, empty: &Path, runs: usize) -> f64 {
-    median((0..runs).map(|_| once(program, empty).milliseconds).collect())
-}
-
-/// The median of the work beyond an empty run, the two taking turns, and the second line that is printed.
+/// The work beyond an empty run, and the second line that is printed.
 fn measure(program: &Path, input: &Path, empty: &Path, runs: usize) -> (f64, String) {
-    let beyond = |_| once(program, input).milliseconds - once(program, empty).milliseconds;
-    let work = median((0..runs).map(beyond).collect());
-    let ran = once(program, input);
-    assert_eq!(ran.status, Some(0), "the program was ended");
-    let lines: Vec<&str> = ran.printed.lines().take(2).collect();
+    let work = beyond(program, input, empty, runs);
+    let printed = once(program, input).printed;
+    let lines: Vec<&str> = printed.lines().take(2).collect();
     let kind = if lines[0].starts_with("refusal") { "refusal " } else { "" };
     (work, format!("{kind}{}", lines[1]))
 }

@@ -5,7 +5,7 @@ mod chart;
 mod process;
 mod tools;
 
-use process::Ran;
+use process::{median, Ran};
 use std::path::{Path, PathBuf};
 use tools::{Kind, Tool};
 
@@ -72,11 +72,6 @@ fn entries(folder: &Path) -> Vec<Entry> {
         Entry { name: name.into(), title: title.into(), family: family.into(), part: part.parse().expect("a number") }
     };
     index.lines().map(entry).collect()
-}
-
-fn median(times: &mut [f64]) -> f64 {
-    times.sort_by(f64::total_cmp);
-    times[times.len() / 2]
 }
 
 /// The empty run: a list without clauses, two designs of one gate each.

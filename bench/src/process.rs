@@ -58,3 +58,8 @@ pub fn run(command: &mut Command, input: &Path, seconds: u64) -> std::io::Result
         status: (status & 127 == 0).then_some(status >> 8 & 255),
     })
 }
+
+pub fn median(times: &mut [f64]) -> f64 {
+    times.sort_by(f64::total_cmp);
+    times[times.len() / 2]
+}

@@ -19,6 +19,8 @@ pub fn lists() -> Vec<(&'static str, List)> {
         ("chain of ANDs whose lead falls", largest(falling_leads)),
         ("multiplexers on one select", largest(one_select)),
         ("one net in every clause", largest(one_net)),
+        ("one wide clause in many orders", largest(one_wide)),
+        ("wide clauses in one bucket of the index", largest(one_bucket)),
     ]
 }
 
@@ -76,8 +78,7 @@ fn ands_over_few(n: usize) -> List {
     let mut random = Random(1);
     let mut clauses = exclusive(nets, nets);
     for _ in 0..n {
-        let mut rest: Vec<i32> = (1..=nets).collect();
-        clauses.push((0..12).map(|_| rest.swap_remove(random.below(rest.len()))).collect());
+        clauses.push(drawn(12, 1..=nets, &mut random));
     }
     List { nets: nets as usize, clauses }
 }
@@ -163,4 +164,31 @@ fn one_net(n: usize) -> List {
     let nets = 1_024;
     let mut other = || (2 + random.below(nets - 1) as i32) * random.sign();
     List { nets, clauses: (0..n).map(|_| vec![1, other(), other()]).collect() }
+}
+
+/// One clause of 999 nets n times, its literals mixed up in each.
+fn one_wide(n: usize) -> List {
+    let mut random = Random(3);
+    let nets = 999;
+    List { nets, clauses: (0..n).map(|_| drawn(nets, 1..=nets as i32, &mut random)).collect() }
+}
+
+/// n clauses over all of 999 nets, in each of which two of the first 2n are inverse, as far from the first of them as from the last: so the
+/// product's index has all clauses in one bucket. The other nets come first, mixed up, and the two come last.
+fn one_bucket(n: usize) -> List {
+    let mut random = Random(4);
+    let (nets, ends) = (999, 2 * n as i32);
+    let clause = |k: i32| {
+        let two = [k, ends + 1 - k];
+        let plain = (1..=ends).filter(|x| !two.contains(x));
+        let others = drawn(nets as usize, ends + 1..=nets, &mut random);
+        others.into_iter().chain(plain).chain(two.map(|x| -x)).collect()
+    };
+    List { nets: nets as usize, clauses: (1..=n as i32).map(clause).collect() }
+}
+
+/// Some of the nets, in any order.
+fn drawn(count: usize, nets: impl Iterator<Item = i32>, random: &mut Random) -> Vec<i32> {
+    let mut rest: Vec<i32> = nets.collect();
+    (0..count.min(rest.len())).map(|_| rest.swap_remove(random.below(rest.len()))).collect()
 }

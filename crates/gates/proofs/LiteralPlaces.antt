@@ -2,7 +2,7 @@
 -- Assumes nothing.
 use mathlib.Core.Path.{_≡_, sym, _∙_, ap, subst}
 use mathlib.Core.Logic.{_≢_}
-use mathlib.Core.Bool.{true, false, not}
+use mathlib.Core.Bool.{true, false, not, _||_, true≢false}
 use mathlib.Core.List.{List}
 use Prim.Native.Nat.{ℕ, _+_, _≤_, _<_}
 use native.Mathlib.Omega.{arith}
@@ -12,10 +12,10 @@ use lib.ListN.{length, getD}
 use borrow.Author.Tests.{eq-eqb}
 use Rattle.clauses.specs.Clause.{Mem}
 use Rattle.clauses.specs.Listing.{mem}
-use Rattle.clauses.proofs.Lists.{eqb-not}
+use Rattle.clauses.proofs.Lists.{eqb-not, or-left, or-right}
 use Rattle.clauses.proofs.Clauses.{in-mem}
 use Rattle.gates.specs.Found.{clauseAt}
-use Rattle.gates.specs.Search.{PlaceOf}
+use Rattle.gates.specs.Search.{PlaceOf, GoesOn}
 use Rattle.gates.proofs.Rows.{clause-stops, clause-goes-on, clause-ended, literal-some, place-in}
 use Rattle.gates.proofs.Walks.{holds-stop, holds-on}
 
@@ -33,10 +33,15 @@ module _ (row : List ℕ) (i x : ℕ) where
       record { low = omega arith; high = omega arith; here = λ h. e; none = λ h. absurd (omega arith) }
 
   -- the rest of the clause decides
-  pub place-on : getD row i 0 ≢ 0 → getD row i 0 ≢ x → (p : ℕ) → PlaceOf row (i + 1) x p → PlaceOf row i x p
+  pub place-on : getD row i 0 ≢ 0 → getD row i 0 ≢ x → GoesOn row x i (i + 1)
   place-on n m p f =
       let z = ap length (clause-goes-on row i n) in
       record { low = omega (arith, f .low); high = omega (arith, f .high); here = λ h. f .here (omega arith); none = λ h. holds-on row i x n m ∙ f .none (omega arith) }
+
+pub goes-past : {row : List ℕ} {x b i : ℕ} → GoesOn row x b i → (eqb (getD row i 0) 0 || eqb (getD row i 0) x) ≡ false → GoesOn row x b (i + 1)
+goes-past {row} {x} {b} {i} k e p f =
+    k p
+    (place-on row i x (λ z. true≢false (sym (or-left (eqb (getD row i 0) x) (eq-eqb _ _ z)) ∙ e)) (λ z. true≢false (sym (or-right (eqb (getD row i 0) 0) (eq-eqb _ _ z)) ∙ e)) p f)
 
 -- A place that was found
 

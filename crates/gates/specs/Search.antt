@@ -35,3 +35,7 @@ pub record PlaceOf (row : List ℕ) (b x p : ℕ) : Type 0 where
   pub high : p ≤ b + length (clauseAt row b)
   pub here : p < b + length (clauseAt row b) → getD row p 0 ≡ x
   pub none : p ≡ b + length (clauseAt row b) → mem x (clauseAt row b) ≡ false
+
+-- a search for x from place b on has come to place i: what is found from there on is found from b on
+abbrev pub GoesOn : List ℕ → ℕ → ℕ → ℕ → Type 0
+GoesOn row x b i = (p : ℕ) → PlaceOf row i x p → PlaceOf row b x p

@@ -1,16 +1,66 @@
 // Two clauses of a row of codes, compared where they stand.
 
 ghost use mathlib.Core.Path.{_≡_};
+ghost use mathlib.Core.Bool.{false, _||_};
 ghost use Prim.Native.Nat.{_+_, _≤_};
+ghost use lib.Dec.{eqb};
 ghost use lib.ListN.{length};
 ghost use Rattle.clauses.specs.Listing.{within, sameSet};
 ghost use Rattle.gates.specs.Found.{clauseAt};
-ghost use Rattle.gates.specs.Search.{PlaceOf};
+ghost use Rattle.gates.specs.Search.{PlaceOf, GoesOn};
 use crate::place::literal;
 use crate::place::place_of;
 
-// .. The literal found last stands before `next`. Those beside it are looked at first, the one behind it and then the one before, so that two
-// clauses with the same order, or one turned round, take a step for each literal.
+// Entries of a block.
+const BLOCK: usize = 32;
+
+// Whether an entry is x or ends a clause.
+fn is_either(y: u32, x: u32) -> bool
+    ensures { λ r. ⌜ r ≡ (eqb y 0 || eqb y x) ⌝ }
+{
+    if y == 0 {
+        return true;
+    }
+    y == x
+}
+
+// Whether there is such an entry from place b to end. The loop is not left early, so that the compiler takes several entries at a time.
+fn has_either(codes: &[u32], b: usize, end: usize, x: u32) -> bool
+    requires { ⌜ (b ≤ end) × (end ≤ length (now codes)) ⌝ }
+    ensures { λ r. ⌜ (r ≡ false → GoesOn (now (codes .entry)) x b end) ⌝ }
+{
+    let mut found = false;
+    let mut i = b;
+    while i < end {
+        if is_either(codes[i], x) {
+            found = true;
+        }
+        i += 1;
+    }
+    found
+}
+
+// A place from b on before which there is none: blocks without one are left behind.
+fn skip_blocks(codes: &[u32], b: usize, x: u32) -> usize
+    ensures { λ r. ⌜ GoesOn (now (codes .entry)) x b r ⌝ }
+{
+    let n = codes.len();
+    let mut i = b;
+    while i < n {
+        if n - i < BLOCK {
+            return i;
+        }
+        if has_either(codes, i, i + BLOCK, x) {
+            return i;
+        }
+        i += BLOCK;
+    }
+    i
+}
+
+// A place of x in the clause at b, or the clause's end if x is none of its literals. Where the literal before it was found, `next` is the place
+// behind: the literals on either side of that one are looked at first, so that two clauses with one order, or one turned round, take a step for
+// each literal.
 fn place_near(codes: &[u32], b: usize, next: usize, x: u32) -> usize
     requires { ⌜ (b ≤ next) × (next ≤ b + length (clauseAt (now codes) b)) ⌝ }
     requires { ⌜ 1 ≤ x ⌝ }
@@ -24,7 +74,7 @@ fn place_near(codes: &[u32], b: usize, next: usize, x: u32) -> usize
             return next - 2;
         }
     }
-    place_of(codes, b, x)
+    place_of(codes, skip_blocks(codes, b, x), x)
 }
 
 // Whether every literal of the clause at a is one of the clause at b.

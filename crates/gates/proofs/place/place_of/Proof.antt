@@ -2,19 +2,19 @@
 -- Assumes nothing.
 use mathlib.Core.Path.{_≡_, sym, _∙_}
 use mathlib.Core.Logic.{_≢_}
-use Prim.Native.Nat.{ℕ, _-_, _<_}
+use Prim.Native.Nat.{_-_, _<_}
 use native.Mathlib.Omega.{arith}
 use lib.ListN.{length, getD}
 use denote.Ref.{now}
 use borrow.Author.Needs.{needs}
-use Rattle.gates.specs.Search.{PlaceOf}
+use Rattle.gates.specs.Search.{GoesOn}
 use Rattle.gates.proofs.Rows.{literal-within}
 use Rattle.gates.proofs.LiteralPlaces.{place-stop, place-here, place-on}
 use Rattle.gates.proofs.place.place_of.Statement.{statement}
 use Rattle.gates.proofs.place.place_of.Tie as tie
 
 abbrev Inv-loop : tie.InvT-loop
-Inv-loop codes b x i₀ i = (p : ℕ) → PlaceOf codes i x p → PlaceOf codes b x p
+Inv-loop codes b x i₀ i = GoesOn codes x b i
 
 abbrev μ-loop : tie.MeasureT-loop
 μ-loop codes b x i₀ i = length codes - i

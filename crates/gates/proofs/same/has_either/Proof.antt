@@ -1,0 +1,60 @@
+-- `gates::same::has_either` meets its contract.
+-- Assumes nothing.
+use mathlib.Core.Path.{_≡_, sym, _∙_}
+use mathlib.Core.Logic.{⊎-elim}
+use mathlib.Core.Bool.{false, true≢false}
+use Prim.Native.Nat.{_-_, _≤_}
+use native.Mathlib.Omega.{arith}
+use borrow.Author.Needs.{needs}
+use Rattle.gates.specs.Search.{GoesOn}
+use Rattle.gates.proofs.LiteralPlaces.{goes-past}
+use Rattle.gates.proofs.same.has_either.Statement.{statement}
+use Rattle.gates.proofs.same.has_either.Tie as tie
+
+abbrev Inv-loop : tie.InvT-loop
+Inv-loop codes b end x found₀ i₀ found i = (i ≤ end) × (found ≡ false → GoesOn codes x b i)
+
+abbrev μ-loop : tie.MeasureT-loop
+μ-loop codes b end x found₀ i₀ found i = end - i
+
+loop-holds : tie.Need-loop-holds Inv-loop μ-loop
+loop-holds c = (c .before .pre .0, λ e p f. f)
+
+mul-is-either : tie.Need-mul-is-either Inv-loop μ-loop
+mul-is-either c = search needs
+
+shared-slice-read-is-either : tie.Need-shared-slice-read-is-either Inv-loop μ-loop
+shared-slice-read-is-either c = search needs
+
+is-either-requires : tie.Need-is-either-requires Inv-loop μ-loop
+is-either-requires c κs = search needs
+
+add-i : tie.Need-add-i Inv-loop μ-loop
+add-i c = search needs
+
+loop-less : tie.Need-loop-less Inv-loop μ-loop
+loop-less c = search needs
+
+loop-again : tie.Need-loop-again Inv-loop μ-loop
+loop-again c = (
+    omega (arith, c .before .before .before .loop-test .taken),
+    λ e. ⊎-elim (λ t. absurd (true≢false (sym (t .1) ∙ e))) (λ t. goes-past (c .before .before .before .before .loop .inv .1 (sym (t .1) ∙ e)) (sym (c .before .is-either .ensures) ∙ t .0 .left)) (c .if1 .came),
+  )
+
+returns : tie.Need-returns Inv-loop μ-loop
+returns c = let e : c .before .loop .i ≡ c .before .before .before .args .end = omega (arith, c .loop-test .left, c .before .loop .inv .0) in rw e at (c .before .loop .inv .1)
+
+pub has-either-spec : {M : Type 1} → statement M
+has-either-spec =
+    tie.close
+    (tie.spec
+    Inv-loop
+    μ-loop
+    loop-holds
+    mul-is-either
+    shared-slice-read-is-either
+    is-either-requires
+    add-i
+    loop-less
+    loop-again
+    returns)
