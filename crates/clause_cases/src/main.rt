@@ -69,6 +69,12 @@ fn place_cases() {
         5,
     );
     pair(b"a part of a clause", &[2, 5, 6, 0], 0, 1);
+    pair(
+        b"a literal that stands before the second",
+        &[2, 8, 0, 8, 2, 0],
+        0,
+        4,
+    );
     pair(b"no 0 at the row's end", &[2, 5, 0, 5, 2], 0, 3);
     pair(b"two empty clauses", &[2, 0, 0, 5, 0], 1, 2);
     pair(b"an empty clause and another one", &[2, 0, 0, 5, 0], 2, 3);
@@ -108,6 +114,8 @@ const ENTRIES: usize = WIDTH + 1;
 // Where the wide clauses start that the first one is compared with.
 const SAME_ORDER: usize = ENTRIES;
 
+const EMPTY: usize = TURNED_ROUND - 1;
+
 const TURNED_ROUND: usize = 2 * ENTRIES;
 
 const TURNED_ROUND_BUT_ONE: usize = 3 * ENTRIES;
@@ -134,6 +142,7 @@ fn put_clause(row: &mut [u32], at: usize, first: usize, step: usize) {
 fn start_of(order: u8) -> usize {
     match order {
         b'o' => SAME_ORDER,
+        b'e' => EMPTY,
         b't' => TURNED_ROUND,
         b'b' => TURNED_ROUND_BUT_ONE,
         _ => MIXED,

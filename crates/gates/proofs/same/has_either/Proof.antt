@@ -37,9 +37,9 @@ loop-less c = search needs
 
 loop-again : tie.Need-loop-again Inv-loop μ-loop
 loop-again c = (
-    omega (arith, c .before .before .before .loop-test .taken),
-    λ e. ⊎-elim (λ t. absurd (true≢false (sym (t .1) ∙ e))) (λ t. goes-past (c .before .before .before .before .loop .inv .1 (sym (t .1) ∙ e)) (sym (c .before .is-either .ensures) ∙ t .0 .left)) (c .if1 .came),
-  )
+  omega (arith, c .before .before .before .loop-test .taken),
+  λ e. ⊎-elim (λ t. absurd (true≢false (sym (t .1) ∙ e))) (λ t. goes-past (c .before .before .before .before .loop .inv .1 (sym (t .1) ∙ e)) (sym (c .before .is-either .ensures) ∙ t .0 .left)) (c .if1 .came),
+)
 
 returns : tie.Need-returns Inv-loop μ-loop
 returns c = let e : c .before .loop .i ≡ c .before .before .before .args .end = omega (arith, c .loop-test .left, c .before .loop .inv .0) in rw e at (c .before .loop .inv .1)
