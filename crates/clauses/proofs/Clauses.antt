@@ -10,6 +10,7 @@ use native.Mathlib.Omega.{arith}
 use lib.Dec.{eqb, leb}
 use lib.ListN.{length}
 use borrow.Author.Tests.{eq-eqb, eqb-true, leb-true}
+use borrow.Table.Steps.{cases}
 use Rattle.clauses.specs.Code.{negate, net}
 use Rattle.clauses.specs.Clause.{Mem, Within, Same, Tautology, Present}
 use Rattle.clauses.specs.Lists.{any, keep}
@@ -82,6 +83,12 @@ same-tautology h t = record { lit = t .lit; plain = h .right (t .lit) (t .plain)
 
 pub present-same : {cs : List (List ℕ)} {c d : List ℕ} → Same c d → Present cs d → Present cs c
 present-same h k = record { found = k .found; listed = k .listed; proper = k .proper; same = same-trans h (k .same) }
+
+-- both are present, or neither is
+pub same-present : (cs : List (List ℕ)) (c d : List ℕ) → Same c d → present cs c ≡ present cs d
+same-present cs c d s =
+    cases (present cs d) (λ t. is-present cs c (present-same s (present-is cs d t)) ∙ sym t)
+    (λ f. cases (present cs c) (λ t. absurd (true≢false (sym (is-present cs d (present-same (same-sym s) (present-is cs c t))) ∙ f))) (λ g. g ∙ sym f))
 
 pub present-proper : {cs : List (List ℕ)} {c : List ℕ} → Present cs c → ¬ Tautology c
 present-proper h t = h .proper (record { lit = t .lit; plain = h .same .left (t .lit) (t .plain); inverse = h .same .left (negate (t .lit)) (t .inverse) })

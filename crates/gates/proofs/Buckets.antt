@@ -2,7 +2,7 @@
 -- Assumes nothing.
 use mathlib.Core.Path.{_≡_, refl, sym, _∙_, ap}
 use mathlib.Core.List.{List}
-use Prim.Native.Nat.{ℕ, _+_, _*_, _%_, _≤_, _<_}
+use Prim.Native.Nat.{ℕ, _+_, _*_, _/_, _%_, _≤_, _<_}
 use native.Mathlib.Nat.{mul-le-mul}
 use native.Mathlib.Omega.{arith}
 use lib.ListN.{length, getD, drop}
@@ -12,10 +12,11 @@ use Rattle.clauses.specs.Listing.{literals}
 use Rattle.clauses.proofs.Distinct.{Distinct}
 use Rattle.clauses.proofs.Picks.{Perm, perm-of-same}
 use Rattle.clauses.proofs.Clauses.{same-sym, same-trans, literals-same, literals-distinct, literals-once}
+use Rattle.gates.specs.Sign.{flip, isInverse, masked}
 use Rattle.gates.specs.Found.{clauseAt}
 use Rattle.gates.specs.Index.{share, sum, buckets, bucketOf}
 use Rattle.gates.proofs.Rows.{clause-stops, clause-goes-on}
-use Rattle.gates.proofs.Walks.{from-end, from-on}
+use Rattle.gates.proofs.Masks.{masked-end, masked-on}
 
 sum-pick : {x : ℕ} {xs ys : List ℕ} → Pick x xs ys → sum xs ≡ share x + sum ys
 unfolding sum
@@ -43,14 +44,14 @@ pub share-small : (x : ℕ) → share x ≤ 65535 * 131071
 unfolding share
 share-small x = mul-le-mul {n₂ = 65535} {m₂ = 131071} (omega arith) (omega arith)
 
-module _ (q : List ℕ) (i : ℕ) where
-  pub rest-end : length q ≤ i → sum (drop i q) ≡ 0
+module _ (q : List ℕ) (i m : ℕ) where
+  pub rest-end : length q ≤ i → sum (masked m (drop i q)) ≡ 0
   unfolding sum
-  rest-end h = ap sum (from-end q i h)
+  rest-end h = ap sum (masked-end q i m h)
 
-  pub rest-on : i < length q → sum (drop i q) ≡ share (getD q i 0) + sum (drop (i + 1) q)
+  pub rest-on : i < length q → sum (masked m (drop i q)) ≡ share (flip (isInverse m) (getD q i 0)) + sum (masked (m / 2) (drop (i + 1) q))
   unfolding sum
-  rest-on h = ap sum (from-on q i h)
+  rest-on h = ap sum (masked-on q i m h)
 
 module _ (row : List ℕ) (i : ℕ) where
   pub clause-sum-stop : getD row i 0 ≡ 0 → sum (clauseAt row i) ≡ 0

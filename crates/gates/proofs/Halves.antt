@@ -3,7 +3,7 @@
 use mathlib.Core.Path.{_≡_, refl, _∙_, ap, ap₂}
 use mathlib.Core.Bool.{true, false, cond, _&&_}
 use mathlib.Core.List.{List, [], _∷_, map}
-use Prim.Native.Nat.{ℕ, zero, suc, _+_, _*_, _/_, _%_, _<_}
+use Prim.Native.Nat.{ℕ, zero, suc, _+_, _-_, _*_, _/_, _%_, _^_, _<_}
 use native.Mathlib.Omega.{arith}
 use borrow.Author.Tests.{eq-eqb, ne-eqb}
 use borrow.Table.Steps.{cases}
@@ -13,12 +13,13 @@ use Rattle.clauses.specs.Code.{negate}
 use Rattle.clauses.specs.Clause.{clausesIn}
 use Rattle.clauses.specs.Lists.{keep, each}
 use Rattle.clauses.specs.Listing.{present}
+use Rattle.clauses.proofs.Clauses.{same-present}
 use Rattle.clauses.proofs.Lists.{and-both, keep-yes, keep-no, each-length}
-use Rattle.gates.specs.Sign.{isInverse}
-use Rattle.gates.specs.Found.{around}
+use Rattle.gates.specs.Sign.{isInverse, masked}
+use Rattle.gates.specs.Found.{clauseAt, around}
 use Rattle.gates.specs.Mark.{isFirst, startOf}
 use Rattle.gates.specs.Ites.{inThree, other, isPaired, Half, halvesAt, half, halves, allHalves, output, side, isMate, mates, isSide, sideMark, isPlainHalf, pairsOf}
-use Rattle.gates.proofs.Threes.{around-in, in-three-is, is-in-three, start-around}
+use Rattle.gates.proofs.Threes.{around-in, in-three-is, is-in-three, start-around, masked-others}
 
 -- The numbers of the halves at a place
 
@@ -79,10 +80,14 @@ module _ (row : List ℕ) where
   unfolding isPaired
   unpaired p h = cases (inThree row p) (λ t. let f : isFirst row (startOf row p) ≡ false = rw t at h in rw (t, f)) (λ t. rw t)
 
-  pub paired-by : (p next after : ℕ) → (inThree row p && isFirst row (startOf row p)) ≡ true → Others p next after
-      → isPaired row p ≡ present (clausesIn row) (getD row p 0 ∷ negate (getD row next 0) ∷ negate (getD row after 0) ∷ [])
-  unfolding isPaired
-  paired-by p next after h o = let a = and-both (inThree row p) _ h in rw (a .0, a .1, o .next-is, o .after-is)
+  -- told by the search for the clause with the other two inverted
+  pub paired-by : (p : ℕ) → (inThree row p && isFirst row (startOf row p)) ≡ true
+      → isPaired row p ≡ present (clausesIn row) (masked (7 - 2 ^ (p - startOf row p)) (clauseAt row (startOf row p)))
+  unfolding isPaired other
+  paired-by p h =
+      let a = and-both (inThree row p) _ h in
+      let t = in-three-is row p (a .0) in
+      rw (a .0, a .1) (same-present (clausesIn row) _ _ (masked-others row (startOf row p) p (t .clause) (t .low) (t .high)))
 
   -- Pairs of halves
 

@@ -1,4 +1,5 @@
 pub mod Signs
+pub mod Masks
 pub mod Ands
 pub mod Xors
 pub mod XorsListed
@@ -21,7 +22,6 @@ pub mod StartOf
 pub mod Firsts
 pub mod HowMany
 pub mod Uprights
-pub mod Masks
 pub mod Marks
 pub mod Queries
 pub mod AndMarks

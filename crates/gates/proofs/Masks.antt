@@ -1,23 +1,51 @@
--- The ways to change an even number of a clause's signs are the masks with an even number of bits.
+-- Masks of signs. The ways to change an even number of a clause's signs are the masks with an even number of bits.
 -- Assumes nothing.
 use mathlib.Core.Path.{_≡_, refl, sym, _∙_, ap, ap₂, subst, subst⁻¹}
 use mathlib.Core.Logic.{_⊎_, inl, inr}
 use mathlib.Core.Bool.{Bool, true, false, not, _||_, false≢true, Bool·not-not}
-use mathlib.Core.List.{List, [], _∷_, _++_, map, List·Memᴰ, List·Memᴰ·head, List·Memᴰ·append-cases, Memᴰ·append-left, Memᴰ·append-right, append-assoc, append-nil}
+use mathlib.Core.List.{List, [], _∷_, map, List·Memᴰ, List·Memᴰ·head, List·Memᴰ·append-cases, Memᴰ·append-left, Memᴰ·append-right}
 use Prim.Native.Nat.{ℕ, suc, _+_, _*_, _/_, _^_, _≤_, _<_}
 use native.Mathlib.Nat.{pow-succ'}
 use native.Mathlib.Numerals.{add-one}
 use native.Mathlib.Omega.{arith}
-use lib.ListN.{length, getD, take, drop, set, drop-of-length-le}
-use lib.Seq.{drop-cons, take-suc-set}
+use lib.ListN.{length, getD, drop, drop-of-length-le}
+use lib.Seq.{drop-cons}
 use Rattle.clauses.specs.Code.{negate}
 use Rattle.clauses.specs.Lists.{all}
 use Rattle.clauses.specs.Listing.{present}
 use Rattle.clauses.proofs.Lists.{mem-map, mem-of-map, all-have, have-all, or-right}
-use Rattle.gates.specs.Sign.{plus, flip, isInverse}
+use Rattle.gates.specs.Sign.{plus, flip, isInverse, masked, maskOdd}
 use Rattle.gates.specs.Listing.{signings}
-use Rattle.gates.specs.Mark.{masked, maskOdd}
 use Rattle.gates.proofs.Signs.{inverse-of-odd, plain-of-even, plus-false, plus-assoc}
+
+pub masked-length : (m : ℕ) (c : List ℕ) → length (masked m c) ≡ length c
+unfolding masked
+masked-length m [] = refl
+masked-length m (l ∷ c) = ap suc (masked-length (m / 2) c)
+
+-- Masks that change no sign, both of two, and all of three but one
+
+pub masked-none : (c : List ℕ) → masked 0 c ≡ c
+unfolding masked isInverse
+masked-none [] = refl
+masked-none (l ∷ c) = ap (λ (k : List ℕ). l ∷ k) (masked-none c)
+
+pub masked-two : (x y : ℕ) → masked 3 (x ∷ y ∷ []) ≡ negate x ∷ negate y ∷ []
+unfolding masked isInverse
+masked-two x y = refl
+
+module _ (x y z : ℕ) where
+  pub masked-first : masked 6 (x ∷ y ∷ z ∷ []) ≡ x ∷ negate y ∷ negate z ∷ []
+  unfolding masked isInverse
+  masked-first = refl
+
+  pub masked-second : masked 5 (x ∷ y ∷ z ∷ []) ≡ negate x ∷ y ∷ negate z ∷ []
+  unfolding masked isInverse
+  masked-second = refl
+
+  pub masked-third : masked 3 (x ∷ y ∷ z ∷ []) ≡ negate x ∷ negate y ∷ z ∷ []
+  unfolding masked isInverse
+  masked-third = refl
 
 -- Masks and the enumerated signs
 
@@ -86,11 +114,6 @@ signed-mask (l ∷ ls) b c k = go (List·Memᴰ·append-cases (map (λ d. l ∷ 
         subst⁻¹ (Mask (l ∷ ls) b) (o .is)
         (subst (λ (e : Bool). Mask (l ∷ ls) e (negate l ∷ o .of)) (Bool·not-not b) (mask-more l ls (not b) true (o .of) (ih (not b) (o .of) (o .in-list))))
 
-masked-none : (c : List ℕ) → masked 0 c ≡ c
-unfolding masked isInverse
-masked-none [] = refl
-masked-none (l ∷ c) = ap (λ (k : List ℕ). l ∷ k) (masked-none c)
-
 module _ (cs : List (List ℕ)) (c : List ℕ) where
   -- the mask that changes nothing
   pub mask-none : present cs c ≡ true → (maskOdd 0 c || present cs (masked 0 c)) ≡ true
@@ -114,49 +137,22 @@ module _ (cs : List (List ℕ)) (c : List ℕ) where
       go false p false q true r =
           absurd (false≢true (sym q ∙ all-have (present cs) (signings c false) r (masked m c) (subst (λ (b : Bool). List·Memᴰ (masked m c) (signings c b)) p (masked-signed c m))))
 
--- Writing a clause with its changed signs from place i on
+-- Signs that are changed one after another: those from place i on
 
 module _ (c : List ℕ) (i m : ℕ) where
-  masked-end : length c ≤ i → masked m (drop i c) ≡ []
+  pub masked-end : length c ≤ i → masked m (drop i c) ≡ []
   unfolding masked
   masked-end h = rw (drop-of-length-le c h)
 
-  maskOdd-end : length c ≤ i → maskOdd m (drop i c) ≡ false
-  unfolding maskOdd
-  maskOdd-end h = rw (drop-of-length-le c h)
-
-  masked-on : i < length c → masked m (drop i c) ≡ flip (isInverse m) (getD c i 0) ∷ masked (m / 2) (drop (i + 1) c)
+  pub masked-on : i < length c → masked m (drop i c) ≡ flip (isInverse m) (getD c i 0) ∷ masked (m / 2) (drop (i + 1) c)
   unfolding masked
   masked-on h = rw (drop-cons c i 0 h, add-one)
 
-  maskOdd-on : i < length c → maskOdd m (drop i c) ≡ plus (isInverse m) (maskOdd (m / 2) (drop (i + 1) c))
+  -- .. and whether all are an odd number, from whether those before are
+  pub odd-end : (odd : Bool) → length c ≤ i → plus odd (maskOdd m (drop i c)) ≡ odd
   unfolding maskOdd
-  maskOdd-on h = rw (drop-cons c i 0 h, add-one)
+  odd-end odd h = rw (drop-of-length-le c h) (plus-false odd)
 
--- what is written, q's first i places, and what comes from there on make the clause with its changed signs
-pub record Writes (mask : ℕ) (c q : List ℕ) (i m : ℕ) (odd : Bool) : Type 0 where
-  pub literals : take i q ++ masked m (drop i c) ≡ masked mask c
-  pub count : plus odd (maskOdd m (drop i c)) ≡ maskOdd mask c
-
-pub writes-start : (mask : ℕ) (c q : List ℕ) → Writes mask c q 0 mask false
-writes-start mask c q = record { literals = refl; count = refl }
-
-pub writes-on : (mask : ℕ) (c q : List ℕ) (i m : ℕ) (odd : Bool) (x : ℕ) → i < length c → i < length q → x ≡ flip (isInverse m) (getD c i 0)
-    → Writes mask c q i m odd → Writes mask c (set q i x) (i + 1) (m / 2) (plus odd (isInverse m))
-writes-on mask c q i m odd x h k e w =
-    let t : take (i + 1) (set q i x) ≡ take i q ++ (x ∷ []) = ap (λ (j : ℕ). take j (set q i x)) (add-one i) ∙ take-suc-set q i x k in
-    let s : masked m (drop i c) ≡ x ∷ masked (m / 2) (drop (i + 1) c) = rw e (masked-on c i m h) in
-    record {
-      literals =
-          ap (λ (l : List ℕ). l ++ masked (m / 2) (drop (i + 1) c)) t ∙ append-assoc (take i q) (x ∷ []) (masked (m / 2) (drop (i + 1) c))
-          ∙ ap (λ (l : List ℕ). take i q ++ l) (sym s) ∙ w .literals;
-      count = sym (plus-assoc odd (isInverse m) (maskOdd (m / 2) (drop (i + 1) c))) ∙ ap (plus odd) (sym (maskOdd-on c i m h)) ∙ w .count;
-    }
-
-pub writes-end : (mask : ℕ) (c q : List ℕ) (i m : ℕ) (odd : Bool) → i ≡ length c → Writes mask c q i m odd
-    → (odd ≡ maskOdd mask c) × (take (length c) q ≡ masked mask c)
-writes-end mask c q i m odd e w =
-    let h : length c ≤ i = omega arith in (
-      sym (plus-false odd) ∙ ap (plus odd) (sym (maskOdd-end c i m h)) ∙ w .count,
-      ap (λ (k : ℕ). take k q) (sym e) ∙ sym (append-nil (take i q)) ∙ ap (λ (l : List ℕ). take i q ++ l) (sym (masked-end c i m h)) ∙ w .literals,
-    )
+  pub odd-on : (odd : Bool) → i < length c → plus odd (maskOdd m (drop i c)) ≡ plus (plus odd (isInverse m)) (maskOdd (m / 2) (drop (i + 1) c))
+  unfolding maskOdd
+  odd-on odd h = rw (drop-cons c i 0 h, add-one) (plus-assoc odd (isInverse m) (maskOdd (m / 2) (drop (suc i) c)))

@@ -5,6 +5,7 @@ use mathlib.Core.Logic.{_≢_, _↔_}
 use mathlib.Core.Bool.{true, false, cond}
 use mathlib.Core.List.{List, [], _∷_, map, Memᴰ·cast}
 use Prim.Native.Nat.{ℕ, _+_, _≤_, _<_}
+use native.Mathlib.Numerals.{add-one}
 use native.Mathlib.Omega.{arith}
 use native.Mathlib.Decide.{ℕ-discrete, decLt}
 use lib.Dec.{eqb}
@@ -13,19 +14,32 @@ use lib.Seq.{getD-set-same, getD-set-other}
 use borrow.Author.Tests.{eq-eqb, ne-eqb, eqb-true}
 use Rattle.clauses.specs.Code.{negate}
 use Rattle.clauses.specs.Clause.{Within, Same, Present, clausesIn}
+use Rattle.clauses.specs.Lists.{from}
+use Rattle.clauses.specs.Listing.{present}
 use Rattle.clauses.proofs.Lists.{and-both, both-and, mem-map, mem-of-map}
 use Rattle.clauses.proofs.Clauses.{present-is, is-present, present-same, same-sym}
 use Rattle.clauses.proofs.Picks.{perm-of-same, perm-length}
+use Rattle.gates.specs.Sign.{masked}
 use Rattle.gates.specs.Found.{clauseAt, Starts}
 use Rattle.gates.specs.Normal.{Normal}
 use Rattle.gates.specs.Mark.{marksPair, pairAt, Pairing}
-use Rattle.gates.proofs.Rows.{clause-at, literal-some, clause-ended}
+use Rattle.gates.proofs.Masks.{masked-two}
+use Rattle.gates.proofs.Rows.{literal-some, clause-ended, clause-listed}
 use Rattle.gates.proofs.StartOf.{start-only}
 use Rattle.gates.proofs.Firsts.{first-of}
 use Rattle.gates.proofs.Marks.{clause-distinct}
 use Rattle.gates.proofs.Queries.{two-distinct}
 
 module _ (row : List ℕ) where
+  clause-two : (b : ℕ) → length (clauseAt row b) ≡ 2 → clauseAt row b ≡ getD row b 0 ∷ getD row (b + 1) 0 ∷ []
+  unfolding from
+  clause-two b e = rw add-one (clause-listed row 2 b e)
+
+  -- told by the search for the inverses
+  pub pair-by : (b : ℕ) → length (clauseAt row b) ≡ 2 → marksPair row b ≡ present (clausesIn row) (masked 3 (clauseAt row b))
+  unfolding marksPair
+  pair-by b e = rw (eq-eqb (length (clauseAt row b)) 2 e) (ap (present (clausesIn row)) (sym (ap (masked 3) (clause-two b e) ∙ masked-two _ _)))
+
   pub pair-literal : (p : ℕ) → getD row p 0 ≢ 0 → pairAt row p ≡ false
   unfolding pairAt
   pair-literal p n = rw (ne-eqb (getD row p 0) 0 n)
@@ -75,12 +89,6 @@ module _ {row before marks : List ℕ} {b : ℕ} (s : Starts row b) (inside : b 
 
 -- The pairs of a row in normal form
 
-two-of : (c : List ℕ) → length c ≡ 2 → c ≡ getD c 0 0 ∷ getD c 1 0 ∷ []
-two-of [] e = absurd (omega arith)
-two-of (x ∷ []) e = absurd (omega arith)
-two-of (x ∷ y ∷ []) e = refl
-two-of (x ∷ y ∷ z ∷ c) e = absurd (omega arith)
-
 inverses-same : {c d : List ℕ} → Same c d → Same (map negate c) (map negate d)
 inverses-same {c} {d} s = record { left = half (s .left); right = half (s .right) }
   where
@@ -88,13 +96,6 @@ inverses-same {c} {d} s = record { left = half (s .left); right = half (s .right
     half {c} w x k = let o = mem-of-map negate c k in Memᴰ·cast (o .is) (mem-map negate (w (o .of) (o .in-list)))
 
 module _ {cs : List (List ℕ)} {row : List ℕ} (normal : Normal row) (same : (c : List ℕ) → Present cs c ↔ Present (clausesIn row) c) where
-  -- the inverses of the literals of a clause of two
-  inverses : (b : ℕ) → length (clauseAt row b) ≡ 2 → map negate (clauseAt row b) ≡ negate (getD row b 0) ∷ negate (getD row (b + 1) 0) ∷ []
-  inverses b e =
-      let z : b + 0 ≡ b = omega arith in
-      ap (map negate) (two-of (clauseAt row b) e)
-      ∙ rw (clause-at row b 0 (omega arith), clause-at row b 1 (omega arith), z)
-
   pub pair-marks : (b : ℕ) → marksPair row b ≡ true → (length (clauseAt row b) ≡ 2) × Present cs (negate (getD row b 0) ∷ negate (getD row (b + 1) 0) ∷ [])
   unfolding marksPair
   pair-marks b h =
@@ -118,6 +119,6 @@ module _ {cs : List (List ℕ)} {row : List ℕ} (normal : Normal row) (same : (
         start = f .start;
         marked =
             both-and (eq-eqb (length (clauseAt row (f .place))) 2 (sym e))
-            (is-present (clausesIn row) _ (rw (← inverses (f .place) (sym e)) (present-same (same-sym (inverses-same (f .same))) (same _ .0 k))));
+            (is-present (clausesIn row) _ (rw (← ap (map negate) (clause-two row (f .place) (sym e))) (present-same (same-sym (inverses-same (f .same))) (same _ .0 k))));
         same-set = f .same;
       }

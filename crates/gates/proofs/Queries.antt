@@ -17,11 +17,10 @@ use Rattle.clauses.proofs.Distinct.{Distinct, empty, more}
 use Rattle.clauses.proofs.Codes.{same-net}
 use Rattle.clauses.proofs.Clauses.{within-is, same-is, is-same, literals-distinct, literals-once, same-refl}
 use Rattle.clauses.proofs.Picks.{picked, pick-same, pick-length, in-rest, perm-of-same, perm-length}
-use Rattle.gates.specs.Sign.{isInverse}
+use Rattle.gates.specs.Sign.{isInverse, masked}
 use Rattle.gates.specs.Found.{clauseAt, Starts}
 use Rattle.gates.specs.Normal.{Normal}
 use Rattle.gates.specs.Search.{Once}
-use Rattle.gates.specs.Mark.{masked}
 use Rattle.gates.proofs.Signs.{net-flip}
 use Rattle.gates.proofs.Rows.{literal-some, clause-ended, starts-listed}
 use Rattle.gates.proofs.Marks.{clause-distinct}
@@ -74,14 +73,6 @@ module _ {row : List ℕ} (normal : Normal row) (b : ℕ) (s : Starts row b) whe
   pub nets-once : Once (map net (clauseAt row b))
   nets-once = literals-once (nets-distinct (clauseAt row b) (clauseAt row b) (clause-distinct normal b s) (same-refl (clauseAt row b) .left) (normal .proper (clauseAt row b) (starts-listed row b s)))
 
-  -- the inverses of two
-  pub inverses-once : length (clauseAt row b) ≡ 2 → Once (negate (getD row b 0) ∷ negate (getD row (b + 1) 0) ∷ [])
-  inverses-once e =
-      two-once (λ i. never (normal .once b b (b + 1) (record { start = s; low = omega arith; high = omega arith }) (record { start = s; low = omega arith; high = omega arith }) (omega arith)))
-    where
-      never : b ≡ b + 1 → ⊥
-      never j = omega arith
-
 -- .. with the signs of a mask
 
 masked-net : (m : ℕ) (c : List ℕ) {x : ℕ} → Mem x (masked m c) → Mem (net x) (map net c)
@@ -112,22 +103,22 @@ filled (y ∷ q) c (more n d) w l x m =
     go h (List·Memᴰ·head e) = List·Memᴰ·head e
     go h (List·Memᴰ·tail k) = List·Memᴰ·tail (h x k)
 
-module _ (row q : List ℕ) (b : ℕ) (o : Once q) where
-  pub same-ended : within q (clauseAt row b) ≡ true → getD row (b + length q) 0 ≡ 0 → sameSet q (clauseAt row b) ≡ true
+-- .. and one with more of them, or fewer, is another clause
+pub sizes-apart : (row q : List ℕ) (b : ℕ) → Once q → Normal row → Starts row b → length q ≢ length (clauseAt row b) → sameSet q (clauseAt row b) ≡ false
+sizes-apart row q b o normal s n =
+    cases (sameSet q (clauseAt row b))
+    (λ t. absurd (n (perm-length (perm-of-same q (clauseAt row b) (once-distinct o) (clause-distinct normal b s) (same-is q (clauseAt row b) t)))))
+    (λ t. t)
+
+module _ (row q : List ℕ) (b n : ℕ) (size : length q ≡ n) (o : Once q) where
+  pub same-ended : within q (clauseAt row b) ≡ true → getD row (b + n) 0 ≡ 0 → sameSet q (clauseAt row b) ≡ true
   same-ended h z =
       let w = within-is q (clauseAt row b) h in
       is-same q (clauseAt row b) (record { left = w; right = filled q (clauseAt row b) (once-distinct o) w (short (decLt (length q) (length (clauseAt row b)))) })
     where
       short : Dec (length q < length (clauseAt row b)) → length (clauseAt row b) ≤ length q
-      short (yes l) = absurd (literal-some row b (b + length q) (omega arith) (omega arith) z)
+      short (yes l) = absurd (literal-some row b (b + n) (omega arith) (omega arith) z)
       short (no n) = omega arith
 
-  -- one with more literals than they are, or fewer, is another clause
-  pub sizes-apart : Normal row → Starts row b → length q ≢ length (clauseAt row b) → sameSet q (clauseAt row b) ≡ false
-  sizes-apart normal s n =
-      cases (sameSet q (clauseAt row b))
-      (λ t. absurd (n (perm-length (perm-of-same q (clauseAt row b) (once-distinct o) (clause-distinct normal b s) (same-is q (clauseAt row b) t)))))
-      (λ t. t)
-
-  pub same-longer : Normal row → Starts row b → getD row (b + length q) 0 ≢ 0 → sameSet q (clauseAt row b) ≡ false
-  same-longer normal s n = sizes-apart normal s (λ e. n (rw e (clause-ended row b)))
+  pub same-longer : Normal row → Starts row b → getD row (b + n) 0 ≢ 0 → sameSet q (clauseAt row b) ≡ false
+  same-longer normal s some = sizes-apart row q b o normal s (λ e. some (rw (← size, e) (clause-ended row b)))

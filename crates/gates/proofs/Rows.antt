@@ -3,8 +3,9 @@
 use mathlib.Core.Path.{_≡_, refl, sym, _∙_, ap, subst}
 use mathlib.Core.Logic.{_≢_, _⊎_, inl, inr}
 use mathlib.Core.Bool.{Bool, true, false, not}
-use mathlib.Core.List.{List, [], _∷_, List·Memᴰ, List·Memᴰ·head, List·Memᴰ·tail, List·Memᴰ·not-nil, Memᴰ·cast}
+use mathlib.Core.List.{List, [], _∷_, map, List·Memᴰ, List·Memᴰ·head, List·Memᴰ·tail, List·Memᴰ·not-nil, Memᴰ·cast}
 use Prim.Native.Nat.{ℕ, zero, suc, _+_, _-_, _≤_, _<_}
+use native.Mathlib.Numerals.{add-one}
 use native.Mathlib.Omega.{arith}
 use native.Mathlib.Decide.{decLt, ℕ-discrete}
 use lib.Dec.{eqb}
@@ -13,6 +14,7 @@ use lib.Seq.{drop-cons, drop-drop, getD-drop}
 use borrow.Author.Tests.{eq-eqb, ne-eqb, eqb-false}
 use borrow.Table.Steps.{cases}
 use Rattle.clauses.specs.Bytes.{front}
+use Rattle.clauses.specs.Lists.{from}
 use Rattle.clauses.specs.Clause.{Mem, onto, clausesIn}
 use Rattle.clauses.proofs.Distinct.{Distinct, empty, more}
 use Rattle.clauses.proofs.Runs.{run-none, run-stops, run-goes-on}
@@ -105,6 +107,14 @@ module _ (row : List ℕ) (b : ℕ) where
   pub clause-fits : b ≤ length row → b + length (clauseAt row b) ≤ length row
   unfolding clauseAt
   clause-fits h = omega (arith, front-fits (drop b row), length-drop b row)
+
+-- the literals of a clause by their places
+pub clause-listed : (row : List ℕ) (n b : ℕ) → length (clauseAt row b) ≡ n → clauseAt row b ≡ map (λ (p : ℕ). getD row p 0) (from b n)
+unfolding from
+clause-listed row zero b e = let z : b + length (clauseAt row b) ≡ b = omega arith in clause-stops row b (rw z at (clause-ended row b))
+clause-listed row (suc n) b e =
+    let s = clause-goes-on row b (literal-some row b b (omega arith) (omega arith)) in
+    s ∙ ap (λ (c : List ℕ). getD row b 0 ∷ c) (rw (← add-one b) (clause-listed row n (b + 1) (omega (arith, ap length s))))
 
 -- Where clauses start
 

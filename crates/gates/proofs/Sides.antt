@@ -3,20 +3,20 @@
 use mathlib.Core.Path.{_≡_, refl, sym, _∙_, ap, subst, subst⁻¹}
 use mathlib.Core.Logic.{_≢_}
 use mathlib.Core.Bool.{Bool, true, false, not, true≢false}
-use mathlib.Core.List.{List, [], _∷_, List·Memᴰ·head, List·Memᴰ·tail, Memᴰ·cast, List·Memᴰ·not-nil}
+use mathlib.Core.List.{List, [], _∷_, Memᴰ·cast}
 use Prim.Native.Nat.{ℕ, _+_, _≤_, _<_}
 use native.Mathlib.Omega.{arith}
 use native.Mathlib.Decide.{ℕ-discrete}
 use lib.ListN.{length, getD}
 use Rattle.clauses.specs.Code.{negate, net}
-use Rattle.clauses.specs.Clause.{clausesIn, Mem, Within, Same, Tautology, Present}
-use Rattle.clauses.proofs.Lists.{and-both, both-and}
+use Rattle.clauses.specs.Clause.{clausesIn, Mem, Same, Tautology, Present}
+use Rattle.clauses.proofs.Lists.{and-both, both-and, in-first, in-second, in-third}
 use Rattle.clauses.proofs.Codes.{negate-negate}
 use Rattle.clauses.proofs.Clauses.{present-is, is-present, same-refl, same-sym, same-trans, present-same, present-proper}
 use Rattle.clauses.proofs.Picks.{perm-of-same, perm-length}
 use Rattle.gates.specs.Gate.{Apart, IteGate}
 use Rattle.gates.specs.Found.{clauseAt, around, Starts, LiteralAt}
-use Rattle.gates.specs.Search.{firstPlace, Once}
+use Rattle.gates.specs.Search.{firstPlace}
 use Rattle.gates.specs.Normal.{Normal}
 use Rattle.gates.specs.Mark.{isFirst, startOf}
 use Rattle.gates.specs.Ites.{inThree, other, isPaired}
@@ -24,32 +24,11 @@ use Rattle.gates.specs.declared.search.Place.{Place}
 use Rattle.gates.specs.declared.search.Place.the-variants.{At, Nothing}
 use Rattle.gates.proofs.ItesListed.{nets-apart, apart-nets, apart-signs}
 use Rattle.gates.proofs.Rows.{LiteralOf, literal-in, literal-of, starts-listed}
-use Rattle.gates.proofs.StartOf.{start-is}
 use Rattle.gates.proofs.Places.{First, place-first, first-only, nothing-present}
 use Rattle.gates.proofs.Firsts.{first-same, first-is, is-first}
 use Rattle.gates.proofs.Marks.{clause-distinct}
-use Rattle.gates.proofs.Queries.{three-distinct, three-once, nets-differ}
-use Rattle.gates.proofs.Threes.{Three, InThree, in-three-is, is-in-three, start-in-three, around-in, around-apart}
-
--- Sets of three literals
-
-within-three : (a b c : ℕ) (d : List ℕ) → Mem a d → Mem b d → Mem c d → Within (a ∷ b ∷ c ∷ []) d
-within-three a b c d i j k x (List·Memᴰ·head e) = Memᴰ·cast e i
-within-three a b c d i j k x (List·Memᴰ·tail (List·Memᴰ·head e)) = Memᴰ·cast e j
-within-three a b c d i j k x (List·Memᴰ·tail (List·Memᴰ·tail (List·Memᴰ·head e))) = Memᴰ·cast e k
-within-three a b c d i j k x (List·Memᴰ·tail (List·Memᴰ·tail (List·Memᴰ·tail m))) = absurd (List·Memᴰ·not-nil m)
-
-mem-one : {a b c : ℕ} → Mem a (a ∷ b ∷ c ∷ [])
-mem-one = List·Memᴰ·head refl
-
-mem-two : {a b c : ℕ} → Mem b (a ∷ b ∷ c ∷ [])
-mem-two = List·Memᴰ·tail (List·Memᴰ·head refl)
-
-mem-three : {a b c : ℕ} → Mem c (a ∷ b ∷ c ∷ [])
-mem-three = List·Memᴰ·tail (List·Memᴰ·tail (List·Memᴰ·head refl))
-
-swap : (a b c : ℕ) → Same (a ∷ b ∷ c ∷ []) (a ∷ c ∷ b ∷ [])
-swap a b c = record { left = within-three a b c (a ∷ c ∷ b ∷ []) mem-one mem-three mem-two; right = within-three a c b (a ∷ b ∷ c ∷ []) mem-one mem-three mem-two }
+use Rattle.gates.proofs.Queries.{three-distinct, nets-differ}
+use Rattle.gates.proofs.Threes.{within-three, swap, Three, InThree, in-three-is, is-in-three, start-in-three, around-in, around-apart}
 
 three-equal : {a b c d e f : ℕ} → a ≡ d → b ≡ e → c ≡ f → a ∷ b ∷ c ∷ [] ≡ d ∷ e ∷ f ∷ []
 three-equal p q r = rw (p, q, r)
@@ -135,11 +114,11 @@ module _ {row : List ℕ} (normal : Normal row) where
       here q l h = literal-in row b q (literal-here b q s (t .clause) l h)
 
       back : (x q : ℕ) → getD row q 0 ≡ x → b ≤ q → q < b + 3 → Dec (q ≡ p) → Dec (q ≡ next) → Mem x (clause-of p)
-      back x q e l h (yes i) d = Memᴰ·cast (sym e ∙ ap (λ (k : ℕ). getD row k 0) i) mem-one
-      back x q e l h (no m) (yes i) = Memᴰ·cast (sym e ∙ ap (λ (k : ℕ). getD row k 0) i) mem-two
+      back x q e l h (yes i) d = Memᴰ·cast (sym e ∙ ap (λ (k : ℕ). getD row k 0) i) in-first
+      back x q e l h (no m) (yes i) = Memᴰ·cast (sym e ∙ ap (λ (k : ℕ). getD row k 0) i) in-second
       back x q e l h (no m) (no n) =
           let i : q ≡ after = omega (arith, r, u, t .low, t .high, around-apart b p (t .low) (t .high)) in
-          Memᴰ·cast (sym e ∙ ap (λ (k : ℕ). getD row k 0) i) mem-three
+          Memᴰ·cast (sym e ∙ ap (λ (k : ℕ). getD row k 0) i) in-third
 
   record Paired (p : ℕ) : Type 0 where
     three : InThree row p
@@ -193,31 +172,6 @@ module _ {row : List ℕ} (normal : Normal row) where
         others = λ e. d .2 (sym (normal .once b (around b p) (around b (around b p)) at-next at-after e));
       }
 
-  -- what is searched for at a place of a clause of three
-  pub companion-once : (p : ℕ) → inThree row p ≡ true → Once (getD row p 0 ∷ negate (other row p false) ∷ negate (other row p true) ∷ [])
-  companion-once p h = three-once (λ e. xy (omega arith)) (λ e. xz (omega arith)) (λ e. d .others (omega arith))
-    where
-      t : InThree row p
-      t = in-three-is row p h
-
-      start : Starts row (startOf row p)
-      start = start-is row p (omega (arith, t .high, t .clause .inside))
-
-      d : Differ p
-      d = differ p t start
-
-      of : Same (clause-of p) (clauseAt row (startOf row p))
-      of = around-same p t start
-
-      proper : ¬ Tautology (clauseAt row (startOf row p))
-      proper = normal .proper _ (starts-listed row (startOf row p) start)
-
-      xy : net (getD row p 0) ≢ net (other row p false)
-      xy = nets-differ proper _ _ (of .left _ mem-one) (of .left _ mem-two) (d .next)
-
-      xz : net (getD row p 0) ≢ net (other row p true)
-      xz = nets-differ proper _ _ (of .left _ mem-one) (of .left _ mem-three) (d .after)
-
   -- a half is a side
   pub half-side : (p : ℕ) → isPaired row p ≡ true → (a : Bool) → Side (clausesIn row) (negate (other row p a)) (negate (getD row p 0)) (other row p (not a))
   half-side p h a = go a
@@ -232,13 +186,13 @@ module _ {row : List ℕ} (normal : Normal row) where
       proper = present-proper (clause-present p k)
 
       xy : net (getD row p 0) ≢ net (other row p false)
-      xy = nets-differ proper _ _ mem-one mem-two (d .next)
+      xy = nets-differ proper _ _ in-first in-second (d .next)
 
       xz : net (getD row p 0) ≢ net (other row p true)
-      xz = nets-differ proper _ _ mem-one mem-three (d .after)
+      xz = nets-differ proper _ _ in-first in-third (d .after)
 
       yz : net (other row p false) ≢ net (other row p true)
-      yz = nets-differ proper _ _ mem-two mem-three (d .others)
+      yz = nets-differ proper _ _ in-second in-third (d .others)
 
       go : (a : Bool) → Side (clausesIn row) (negate (other row p a)) (negate (getD row p 0)) (other row p (not a))
       go false =
@@ -275,13 +229,13 @@ module _ {row : List ℕ} (normal : Normal row) where
   module _ (x y z : ℕ) (xy : x ≢ y) (xz : x ≢ z) (yz : y ≢ z) (b : ℕ) (f : First row (x ∷ y ∷ z ∷ []) b)
       (companion : Present (clausesIn row) (x ∷ negate y ∷ negate z ∷ [])) where
     of-x : LiteralOf row b x
-    of-x = literal-of row b (f .start) x (f .same .left x mem-one)
+    of-x = literal-of row b (f .start) x (f .same .left x in-first)
 
     of-y : LiteralOf row b y
-    of-y = literal-of row b (f .start) y (f .same .left y mem-two)
+    of-y = literal-of row b (f .start) y (f .same .left y in-second)
 
     of-z : LiteralOf row b z
-    of-z = literal-of row b (f .start) z (f .same .left z mem-three)
+    of-z = literal-of row b (f .start) z (f .same .left z in-third)
 
     places-differ : (u v : ℕ) (i : LiteralOf row b u) (j : LiteralOf row b v) → u ≢ v → i .place ≢ j .place
     places-differ u v i j d e = d (sym (i .is) ∙ ap (λ (p : ℕ). getD row p 0) e ∙ j .is)

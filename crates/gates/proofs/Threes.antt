@@ -1,22 +1,43 @@
--- Places in clauses of three literals.
+-- Clauses of three literals: their places, and their literals as a set.
 -- Assumes nothing.
-use mathlib.Core.Path.{_≡_}
+use mathlib.Core.Path.{_≡_, refl, _∙_}
 use mathlib.Core.Logic.{_≢_}
 use mathlib.Core.Bool.{true}
-use mathlib.Core.List.{List}
-use Prim.Native.Nat.{ℕ, _+_, _≤_, _<_}
+use mathlib.Core.List.{List, [], _∷_, List·Memᴰ·head, List·Memᴰ·tail, Memᴰ·cast, List·Memᴰ·not-nil}
+use Prim.Native.Nat.{ℕ, suc, _+_, _-_, _^_, _≤_, _<_}
 use native.Mathlib.Numerals.{add-one}
 use native.Mathlib.Omega.{arith}
 use native.Mathlib.Decide.{ℕ-discrete}
 use borrow.Author.Tests.{eq-eqb, ne-eqb, eqb-true, lt-ltb, ltb-true}
 use lib.Dec.{ltb}
 use lib.ListN.{length, getD}
-use Rattle.clauses.proofs.Lists.{and-both, both-and}
+use Rattle.clauses.specs.Code.{negate}
+use Rattle.clauses.specs.Clause.{Mem, Within, Same}
+use Rattle.clauses.specs.Lists.{from}
+use Rattle.clauses.proofs.Lists.{and-both, both-and, in-first, in-second, in-third}
+use Rattle.clauses.proofs.Clauses.{same-refl, same-sym}
+use Rattle.gates.specs.Sign.{masked}
 use Rattle.gates.specs.Found.{clauseAt, around, Starts}
-use Rattle.gates.specs.Mark.{startOf}
+use Rattle.gates.specs.Mark.{Spans, startOf}
 use Rattle.gates.specs.Ites.{inThree}
-use Rattle.gates.proofs.Rows.{literal-some, clause-ended}
+use Rattle.gates.proofs.Masks.{masked-first, masked-second, masked-third}
+use Rattle.gates.proofs.Rows.{literal-some, clause-ended, clause-listed}
 use Rattle.gates.proofs.StartOf.{start-low, start-is, start-only}
+
+-- Sets of three literals
+
+pub within-three : (a b c : ℕ) (d : List ℕ) → Mem a d → Mem b d → Mem c d → Within (a ∷ b ∷ c ∷ []) d
+within-three a b c d i j k x (List·Memᴰ·head e) = Memᴰ·cast e i
+within-three a b c d i j k x (List·Memᴰ·tail (List·Memᴰ·head e)) = Memᴰ·cast e j
+within-three a b c d i j k x (List·Memᴰ·tail (List·Memᴰ·tail (List·Memᴰ·head e))) = Memᴰ·cast e k
+within-three a b c d i j k x (List·Memᴰ·tail (List·Memᴰ·tail (List·Memᴰ·tail m))) = absurd (List·Memᴰ·not-nil m)
+
+module _ (a b c : ℕ) where
+  pub swap : Same (a ∷ b ∷ c ∷ []) (a ∷ c ∷ b ∷ [])
+  swap = record { left = within-three a b c _ in-first in-third in-second; right = within-three a c b _ in-first in-third in-second }
+
+  rotate : Same (a ∷ b ∷ c ∷ []) (b ∷ c ∷ a ∷ [])
+  rotate = record { left = within-three a b c _ in-third in-first in-second; right = within-three b c a _ in-second in-third in-first }
 
 -- The places around, in a clause that starts at b
 
@@ -65,6 +86,36 @@ module _ (row : List ℕ) where
 
   pub start-in-three : (b p : ℕ) → Starts row b → Three b → b ≤ p → p < b + 3 → startOf row p ≡ b
   start-in-three b p s t l u = start-only row b p s l (omega (arith, t .size)) (omega (arith, t .inside))
+
+  -- the part of the row that it is
+  pub three-spans : (b : ℕ) → Three b → Spans row b (b + 3)
+  three-spans b t = record { inside = omega (arith, t .inside); is = omega (arith, t .size) }
+
+  clause-three : (b : ℕ) → Three b → clauseAt row b ≡ getD row b 0 ∷ getD row (b + 1) 0 ∷ getD row (b + 2) 0 ∷ []
+  unfolding from
+  clause-three b t = let z : b + 2 ≡ suc (suc b) = omega arith in rw (add-one, z) (clause-listed row 3 b (t .size))
+
+  -- the literal at p and the inverses of the other two, by the mask of their places
+  pub masked-others : (b p : ℕ) → Three b → b ≤ p → p < b + 3
+      → Same (getD row p 0 ∷ negate (getD row (around b p) 0) ∷ negate (getD row (around b (around b p)) 0) ∷ []) (masked (7 - 2 ^ (p - b)) (clauseAt row b))
+  masked-others b p t l h = rw (clause-three b t) (go (ℕ-discrete p b) (ℕ-discrete p (b + 1)))
+    where
+      x : ℕ
+      x = getD row b 0
+
+      y : ℕ
+      y = getD row (b + 1) 0
+
+      z : ℕ
+      z = getD row (b + 2) 0
+
+      around-one : around b (b + 1) ≡ b + 2
+      around-one = around-next b (b + 1) (omega arith) ∙ omega arith
+
+      go : Dec (p ≡ b) → Dec (p ≡ b + 1) → Same (getD row p 0 ∷ negate (getD row (around b p) 0) ∷ negate (getD row (around b (around b p)) 0) ∷ []) (masked (7 - 2 ^ (p - b)) (x ∷ y ∷ z ∷ []))
+      go (yes e) d = let k : p - b ≡ 0 = omega arith in rw (k, masked-first x y z, e, around-next b b (omega arith), around-one) (same-refl _)
+      go (no m) (yes e) = let k : p - b ≡ 1 = omega arith in rw (k, masked-second x y z, e, around-one, around-last b (b + 2) refl) (same-sym (rotate _ _ _))
+      go (no m) (no n) = let e : p ≡ b + 2 = omega arith in let k : p - b ≡ 2 = omega arith in rw (k, masked-third x y z, e, around-last b (b + 2) refl, around-next b b (omega arith)) (rotate _ _ _)
 
   -- a place of such a clause
   pub record InThree (p : ℕ) : Type 0 where

@@ -4,14 +4,14 @@ use mathlib.Core.Path.{_≡_, refl, sym, _∙_, ap}
 use mathlib.Core.Logic.{_≢_}
 use mathlib.Core.Bool.{true, false}
 use mathlib.Core.List.{List, [], _∷_}
-use Prim.Native.Nat.{ℕ, _+_, _≤_, _<_}
-use native.Mathlib.Numerals.{add-one}
-use lib.ListN.{length, getD, drop, drop-of-length-le}
-use lib.Seq.{drop-cons}
+use Prim.Native.Nat.{ℕ, _+_, _/_, _≤_, _<_}
+use lib.ListN.{length, getD, drop}
 use borrow.Author.Tests.{ne-eqb}
 use Rattle.clauses.specs.Lists.{any, all}
 use Rattle.clauses.specs.Listing.{mem, within, sameSet}
+use Rattle.gates.specs.Sign.{flip, isInverse, masked}
 use Rattle.gates.specs.Found.{clauseAt}
+use Rattle.gates.proofs.Masks.{masked-end, masked-on}
 use Rattle.gates.proofs.Rows.{clause-stops, clause-goes-on}
 
 mem-none : (x : ℕ) → mem x [] ≡ false
@@ -42,23 +42,16 @@ pub same-other : (c d : List ℕ) → within c d ≡ true → sameSet c d ≡ wi
 unfolding sameSet
 same-other c d e = rw e
 
--- codes from place i on
-module _ (q : List ℕ) (i : ℕ) where
-  pub from-end : length q ≤ i → drop i q ≡ []
-  from-end h = drop-of-length-le q h
+-- codes with the signs of a mask from place i on
+module _ (q : List ℕ) (i m : ℕ) (d : List ℕ) where
+  pub all-end : length q ≤ i → within (masked m (drop i q)) d ≡ true
+  all-end h = ap (λ (c : List ℕ). within c d) (masked-end q i m h) ∙ within-none d
 
-  pub from-on : i < length q → drop i q ≡ getD q i 0 ∷ drop (i + 1) q
-  from-on h = rw add-one (drop-cons q i 0 h)
+  pub all-no : i < length q → mem (flip (isInverse m) (getD q i 0)) d ≡ false → within (masked m (drop i q)) d ≡ false
+  all-no h e = ap (λ (c : List ℕ). within c d) (masked-on q i m h) ∙ within-no _ (masked (m / 2) (drop (i + 1) q)) d e
 
-  module _ (d : List ℕ) where
-    pub all-end : length q ≤ i → within (drop i q) d ≡ true
-    all-end h = ap (λ (c : List ℕ). within c d) (from-end h) ∙ within-none d
-
-    pub all-no : i < length q → mem (getD q i 0) d ≡ false → within (drop i q) d ≡ false
-    all-no h e = ap (λ (c : List ℕ). within c d) (from-on h) ∙ within-no (getD q i 0) (drop (i + 1) q) d e
-
-    pub all-on : i < length q → mem (getD q i 0) d ≡ true → within (drop i q) d ≡ within (drop (i + 1) q) d
-    all-on h e = ap (λ (c : List ℕ). within c d) (from-on h) ∙ within-yes (getD q i 0) (drop (i + 1) q) d e
+  pub all-on : i < length q → mem (flip (isInverse m) (getD q i 0)) d ≡ true → within (masked m (drop i q)) d ≡ within (masked (m / 2) (drop (i + 1) q)) d
+  all-on h e = ap (λ (c : List ℕ). within c d) (masked-on q i m h) ∙ within-yes _ (masked (m / 2) (drop (i + 1) q)) d e
 
 -- a clause from place i on
 module _ (row : List ℕ) (i : ℕ) where

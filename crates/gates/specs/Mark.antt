@@ -4,14 +4,14 @@ use mathlib.Core.Path.{_≡_}
 use mathlib.Core.Logic.{_≢_}
 use mathlib.Core.Bool.{Bool, false, cond, not, _&&_, _||_}
 use mathlib.Core.List.{List, [], _∷_}
-use Prim.Native.Nat.{ℕ, zero, suc, _+_, _/_, _≤_, _<_}
+use Prim.Native.Nat.{ℕ, zero, suc, _+_, _≤_, _<_}
 use lib.Dec.{eqb, leb}
 use lib.ListN.{length, getD}
 use Rattle.clauses.specs.Code.{negate, net}
 use Rattle.clauses.specs.Clause.{clausesIn}
 use Rattle.clauses.specs.Lists.{all, keep, from}
 use Rattle.clauses.specs.Listing.{present}
-use Rattle.gates.specs.Sign.{plus, flip, isInverse}
+use Rattle.gates.specs.Sign.{isInverse}
 use Rattle.gates.specs.Listing.{signings}
 use Rattle.gates.specs.Found.{clauseAt, Starts, LiteralAt}
 use Rattle.gates.specs.Search.{firstPlace}
@@ -79,16 +79,6 @@ givesXor cs c = leb (length c) 5 && (isUpright c && all (present cs) (signings c
 -- the end of the clause that starts at b is marked
 unfoldable pub marksXor : List ℕ → ℕ → Bool
 marksXor row b = isCandidate row b && givesXor (clausesIn row) (clauseAt row b)
-
--- the literals, those inverted whose bit is set in the mask: the lowest bit is the first literal's
-unfoldable pub masked : ℕ → List ℕ → List ℕ
-masked m [] = []
-masked m (l ∷ ls) = flip (isInverse m) l ∷ masked (m / 2) ls
-
--- whether these are an odd number
-unfoldable pub maskOdd : ℕ → List ℕ → Bool
-maskOdd m [] = false
-maskOdd m (l ∷ ls) = plus (isInverse m) (maskOdd (m / 2) ls)
 
 -- Pairs
 

@@ -27,10 +27,8 @@ fn is_input(codes: &[u32], index: &[u32], l: u32, k: u32) -> bool
     if k == l {
         return true;
     }
-    let a = inverse(l);
-    let b = inverse(k);
-    let q = [a, b];
-    is_present(codes, index, &q)
+    let pair = [l, k];
+    is_present(codes, index, &pair, 3)
 }
 
 // Whether l is the output of an AND of the clause, if that has three literals or more.

@@ -1,10 +1,12 @@
 // The clause index of a row of codes.
 
 use crate::fill::fill;
+use crate::literal::turned;
 use crate::place::literal;
 ghost use mathlib.Core.Path.{_≡_};
 ghost use Prim.Native.Nat.{_+_, _%_, _<_, _≤_};
 ghost use lib.ListN.{length};
+ghost use Rattle.gates.specs.Sign.{masked};
 ghost use Rattle.gates.specs.Found.{clauseAt, Starts};
 ghost use Rattle.gates.specs.Normal.{Normal};
 ghost use Rattle.gates.specs.Search.{Once};
@@ -29,15 +31,17 @@ fn add_share(s: usize, x: u32) -> usize
     (s + share(x)) % BUCKETS
 }
 
-// The bucket of a clause that is given by its literals, each once.
-pub fn bucket_of(q: &[u32]) -> usize
-    requires { ⌜ Once (now q) ⌝ }
-    ensures { λ r. ⌜ r ≡ bucketOf (now (q .entry)) ⌝ }
+// The bucket of a clause that is given by its literals, each once, those inverted whose bit is set in the mask.
+pub fn bucket_of(q: &[u32], mask: u32) -> usize
+    requires { ⌜ Once (masked mask (now q)) ⌝ }
+    ensures { λ r. ⌜ r ≡ bucketOf (masked mask (now (q .entry))) ⌝ }
 {
+    let mut m = mask;
     let mut s = 0;
     let mut i = 0;
     while i < q.len() {
-        s = add_share(s, q[i]);
+        s = add_share(s, turned(q[i], m));
+        m = m / 2;
         i += 1;
     }
     s

@@ -3,7 +3,7 @@
 ghost use mathlib.Core.Path.{_≡_};
 ghost use mathlib.Core.Logic.{_≢_};
 ghost use mathlib.Core.Bool.{true, cond, _&&_};
-ghost use Prim.Native.Nat.{ℕ, _+_, _*_, _≤_, _<_};
+ghost use Prim.Native.Nat.{ℕ, _+_, _-_, _*_, _^_, _≤_, _<_};
 ghost use lib.Dec.{ltb};
 ghost use lib.ListN.{length, getD, set, replicate};
 ghost use Rattle.clauses.specs.Code.{negate, net};
@@ -55,6 +55,18 @@ fn is_in_first_three(codes: &[u32], kinds: &[u8], b: usize, p: usize) -> bool
     codes[p] != 0
 }
 
+// The mask of the places other than p in a clause of three literals that starts at b.
+fn others_mask(b: usize, p: usize) -> u32
+    requires { ⌜ (b ≤ p) × (p < b + 3) ⌝ }
+    ensures { λ r. ⌜ r ≡ 7 - 2 ^ (p - b) ⌝ }
+{
+    match p - b {
+        0 => 6,
+        1 => 5,
+        _ => 3,
+    }
+}
+
 // Whether the clause of place p has three literals and is the first with them, and the clause with the other two inverted is present.
 fn is_paired(codes: &[u32], index: &[u32], kinds: &[u8], b: usize, p: usize) -> bool
     requires { ⌜ Indexed (now codes) (now index) ⌝ }
@@ -66,12 +78,8 @@ fn is_paired(codes: &[u32], index: &[u32], kinds: &[u8], b: usize, p: usize) -> 
     if !is_in_first_three(codes, kinds, b, p) {
         return false;
     }
-    let next = next_place(codes, p);
-    let after = next_place(codes, next);
-    let not_y = inverse(codes[next]);
-    let not_z = inverse(codes[after]);
-    let companion = [codes[p], not_y, not_z];
-    is_present(codes, index, &companion)
+    let end = b + 3;
+    is_present(codes, index, &codes[b..end], others_mask(b, p))
 }
 
 // The chains of the paired places by their literals, from heads that are all 0.
@@ -165,13 +173,10 @@ fn one_half(codes: &[u32], index: &[u32], x: u32, y: u32, z: u32) -> u32
     ensures { λ r. ⌜ r ≡ length (keep (isHalf (now (codes .entry)) x y z) (allHalves (now (codes .entry)))) ⌝ }
 {
     let clause = [x, y, z];
-    if !is_present(codes, index, &clause) {
+    if !is_present(codes, index, &clause, 0) {
         return 0;
     }
-    let not_y = inverse(y);
-    let not_z = inverse(z);
-    let companion = [x, not_y, not_z];
-    if !is_present(codes, index, &companion) {
+    if !is_present(codes, index, &clause, 6) {
         return 0;
     }
     1

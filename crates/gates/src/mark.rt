@@ -10,7 +10,6 @@ ghost use Rattle.gates.specs.Index.{Indexed};
 ghost use Rattle.gates.specs.Mark.{Spans, isCandidate, Kinds, Twos, marksPair, Marking, Pairing};
 use crate::and::is_and;
 use crate::counts::Counts;
-use crate::literal::inverse;
 use crate::place::clause_end;
 use crate::search::is_present;
 use crate::xor::is_xor;
@@ -140,10 +139,7 @@ fn is_pair(codes: &[u32], index: &[u32], b: usize, end: usize) -> bool
     if end - b != 2 {
         return false;
     }
-    let x = inverse(codes[b]);
-    let y = inverse(codes[b + 1]);
-    let q = [x, y];
-    is_present(codes, index, &q)
+    is_present(codes, index, &codes[b..end], 3)
 }
 
 // Marks the ends of the clauses of two literals whose inverses are a clause too.

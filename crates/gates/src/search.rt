@@ -2,11 +2,13 @@
 
 use crate::index::BUCKETS;
 use crate::index::bucket_of;
+use crate::literal::turned;
 use crate::place::literal;
 use crate::place::place_of;
 ghost use mathlib.Core.Path.{_≡_};
 ghost use Rattle.clauses.specs.Clause.{clausesIn};
 ghost use Rattle.clauses.specs.Listing.{mem, present};
+ghost use Rattle.gates.specs.Sign.{masked};
 ghost use Rattle.gates.specs.Found.{clauseAt};
 ghost use Rattle.gates.specs.Normal.{Normal};
 ghost use Rattle.gates.specs.Index.{Indexed};
@@ -26,26 +28,29 @@ pub fn holds(codes: &[u32], b: usize, x: u32) -> bool
     literal(codes, p) != 0
 }
 
-// The first clause with exactly the literals of q: it holds all of them, and it ends behind as many.
-pub fn find(codes: &[u32], index: &[u32], q: &[u32]) -> Place
+// The first clause with exactly the literals of q, those inverted whose bit is set in the mask: it holds all of them, and it ends behind as
+// many.
+fn find(codes: &[u32], index: &[u32], q: &[u32], mask: u32) -> Place
     requires { ⌜ Indexed (now codes) (now index) ⌝ }
     requires { ⌜ Normal (now codes) ⌝ }
-    requires { ⌜ Once (now q) ⌝ }
-    ensures { λ r. ⌜ r ≡ firstPlace (now (codes .entry)) (now (q .entry)) ⌝ }
+    requires { ⌜ Once (masked mask (now q)) ⌝ }
+    ensures { λ r. ⌜ r ≡ firstPlace (now (codes .entry)) (masked mask (now (q .entry))) ⌝ }
 {
     let n = codes.len();
-    let mut b = index[bucket_of(q)] as usize;
+    let mut b = index[bucket_of(q, mask)] as usize;
     let found = 'clauses: loop {
         if n <= b {
             break 'clauses n;
         }
         let here = b;
         b = index[BUCKETS + here] as usize;
+        let mut m = mask;
         let mut i = 0;
         'literals: while i < q.len() {
-            if !holds(codes, here, q[i]) {
+            if !holds(codes, here, turned(q[i], m)) {
                 continue 'clauses;
             }
+            m = m / 2;
             i += 1;
         }
         if literal(codes, here + q.len()) == 0 {
@@ -58,14 +63,14 @@ pub fn find(codes: &[u32], index: &[u32], q: &[u32]) -> Place
     Place::Nothing
 }
 
-// Whether a clause with exactly the literals of q is present.
-pub fn is_present(codes: &[u32], index: &[u32], q: &[u32]) -> bool
+// Whether such a clause is present.
+pub fn is_present(codes: &[u32], index: &[u32], q: &[u32], mask: u32) -> bool
     requires { ⌜ Indexed (now codes) (now index) ⌝ }
     requires { ⌜ Normal (now codes) ⌝ }
-    requires { ⌜ Once (now q) ⌝ }
-    ensures { λ r. ⌜ r ≡ present (clausesIn (now (codes .entry))) (now (q .entry)) ⌝ }
+    requires { ⌜ Once (masked mask (now q)) ⌝ }
+    ensures { λ r. ⌜ r ≡ present (clausesIn (now (codes .entry))) (masked mask (now (q .entry))) ⌝ }
 {
-    match find(codes, index, q) {
+    match find(codes, index, q, mask) {
         Place::At(_) => true,
         Place::Nothing => false,
     }

@@ -4,19 +4,18 @@ ghost use mathlib.Core.Path.{_≡_};
 ghost use mathlib.Core.Bool.{true, false, not, _||_};
 ghost use mathlib.Core.List.{map};
 ghost use Prim.Native.Nat.{_≤_, _^_};
-ghost use lib.ListN.{length, take};
+ghost use lib.ListN.{length};
 ghost use Rattle.clauses.specs.Code.{net};
 ghost use Rattle.clauses.specs.Clause.{clausesIn};
 ghost use Rattle.clauses.specs.Lists.{all};
 ghost use Rattle.clauses.specs.Listing.{present};
-ghost use Rattle.gates.specs.Sign.{plus, flip, isInverse};
+ghost use Rattle.gates.specs.Sign.{plus, isInverse, masked, maskOdd};
 ghost use Rattle.gates.specs.Listing.{signings};
 ghost use Rattle.gates.specs.Found.{clauseAt, Starts};
 ghost use Rattle.gates.specs.Normal.{Normal};
 ghost use Rattle.gates.specs.Index.{Indexed};
-ghost use Rattle.gates.specs.Mark.{Spans, isLowest, isUpright, masked, maskOdd, givesXor};
+ghost use Rattle.gates.specs.Mark.{Spans, isLowest, isUpright, givesXor};
 ghost use Rattle.gates.specs.Search.{Once};
-use crate::literal::inverse;
 use crate::search::is_present;
 
 // Whether no net of the clause is lower than x's.
@@ -57,13 +56,6 @@ fn is_upright(clause: &[u32]) -> bool
     true
 }
 
-// The literal, inverted if the mask's lowest bit is set.
-fn turned(x: u32, mask: u32) -> u32
-    ensures { λ r. ⌜ r ≡ flip (isInverse mask) x ⌝ }
-{
-    if mask % 2 == 1 { inverse(x) } else { x }
-}
-
 // Whether an odd number is inverted with this bit too.
 fn is_odd_with(odd: bool, mask: u32) -> bool
     ensures { λ r. ⌜ r ≡ plus odd (isInverse mask) ⌝ }
@@ -71,17 +63,14 @@ fn is_odd_with(odd: bool, mask: u32) -> bool
     if mask % 2 == 1 { !odd } else { odd }
 }
 
-// Writes the clause with the signs changed that the mask has; answers whether these are an odd number.
-fn put_masked(clause: &[u32], mask: u32, q: &mut [u32]) -> bool
-    requires { ⌜ length (now clause) ≤ length (now q) ⌝ }
+// Whether the mask changes an odd number of the clause's signs.
+fn is_mask_odd(clause: &[u32], mask: u32) -> bool
     ensures { λ r. ⌜ r ≡ maskOdd mask (now (clause .entry)) ⌝ }
-    ensures { λ _. ⌜ take (length (now (clause .entry))) (now (q .exit)) ≡ masked mask (now (clause .entry)) ⌝ }
 {
     let mut m = mask;
     let mut odd = false;
     let mut i = 0;
     while i < clause.len() {
-        q[i] = turned(clause[i], m);
         odd = is_odd_with(odd, m);
         m = m / 2;
         i += 1;
@@ -94,15 +83,12 @@ fn is_mask_present(codes: &[u32], index: &[u32], clause: &[u32], mask: u32) -> b
     requires { ⌜ Indexed (now codes) (now index) ⌝ }
     requires { ⌜ Normal (now codes) ⌝ }
     requires { ⌜ Once (map net (now clause)) ⌝ }
-    requires { ⌜ length (now clause) ≤ 5 ⌝ }
     ensures { λ r. ⌜ r ≡ (maskOdd mask (now (clause .entry)) || present (clausesIn (now (codes .entry))) (masked mask (now (clause .entry)))) ⌝ }
 {
-    let n = clause.len();
-    let mut q = [0u32; 5];
-    if put_masked(clause, mask, &mut q) {
+    if is_mask_odd(clause, mask) {
         return true;
     }
-    is_present(codes, index, &q[..n])
+    is_present(codes, index, clause, mask)
 }
 
 // How many masks there are for n literals.

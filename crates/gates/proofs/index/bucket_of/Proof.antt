@@ -6,6 +6,7 @@ use native.Mathlib.Omega.{arith}
 use lib.ListN.{length, drop}
 use denote.Ref.{now}
 use borrow.Author.Needs.{needs}
+use Rattle.gates.specs.Sign.{masked}
 use Rattle.gates.specs.Index.{sum, buckets}
 use Rattle.gates.proofs.Buckets.{rest-end, rest-on, clause-bucket}
 use Rattle.gates.proofs.Queries.{once-distinct}
@@ -13,22 +14,25 @@ use Rattle.gates.proofs.index.bucket_of.Statement.{statement}
 use Rattle.gates.proofs.index.bucket_of.Tie as tie
 
 abbrev Inv-loop : tie.InvT-loop
-Inv-loop q s₀ i₀ s i = (s < buckets) × ((s + sum (drop i q)) % buckets ≡ sum q % buckets)
+Inv-loop q mask m₀ s₀ i₀ m s i = (s < buckets) × ((s + sum (masked m (drop i q))) % buckets ≡ sum (masked mask q) % buckets)
 
 abbrev μ-loop : tie.MeasureT-loop
-μ-loop q s₀ i₀ s i = length q - i
+μ-loop q mask m₀ s₀ i₀ m s i = length q - i
 
 loop-holds : tie.Need-loop-holds Inv-loop μ-loop
 loop-holds c = (omega arith, omega arith)
 
-mul-add-share : tie.Need-mul-add-share Inv-loop μ-loop
-mul-add-share c = search needs
+mul-turned : tie.Need-mul-turned Inv-loop μ-loop
+mul-turned c = search needs
 
-shared-slice-read-add-share : tie.Need-shared-slice-read-add-share Inv-loop μ-loop
-shared-slice-read-add-share c = search needs
+shared-slice-read-turned : tie.Need-shared-slice-read-turned Inv-loop μ-loop
+shared-slice-read-turned c = search needs
+
+turned-requires : tie.Need-turned-requires Inv-loop μ-loop
+turned-requires c κs = search needs
 
 add-share-requires : tie.Need-add-share-requires Inv-loop μ-loop
-add-share-requires c κs = c .before .before .loop .inv .0
+add-share-requires c κs = c .before .before .before .loop .inv .0
 
 add-i : tie.Need-add-i Inv-loop μ-loop
 add-i c = search needs
@@ -38,13 +42,13 @@ loop-less c = search needs
 
 loop-again : tie.Need-loop-again Inv-loop μ-loop
 loop-again c =
-    let e = rest-on (now (c .before .before .before .before .before .args .q)) (c .before .before .before .loop .i) (c .before .before .loop-test .taken) in
-    omega (arith, e, c .add-share .ensures, c .before .before .before .loop .inv .0, c .before .before .before .loop .inv .1)
+    let e = rest-on (now (c .before .before .before .before .before .before .args .q)) (c .before .before .before .before .loop .i) (c .before .before .before .before .loop .m) (c .before .before .before .loop-test .taken) in
+    omega (arith, e, rw (c .before .turned .ensures) at (c .add-share .ensures), c .before .before .before .before .loop .inv .0, c .before .before .before .before .loop .inv .1)
 
 returns : tie.Need-returns Inv-loop μ-loop
 returns c =
-    let e = rest-end (now (c .before .before .before .args .q)) (c .before .loop .i) (c .loop-test .left) in
-    clause-bucket (now (c .before .before .before .args .q)) (once-distinct (c .before .before .before .pre)) (c .before .loop .s) (c .before .loop .inv .0) (omega (arith, e, c .before .loop .inv .1))
+    let e = rest-end (now (c .before .before .before .args .q)) (c .before .loop .i) (c .before .loop .m) (c .loop-test .left) in
+    clause-bucket (masked (c .before .before .before .args .mask) (now (c .before .before .before .args .q))) (once-distinct (c .before .before .before .pre)) (c .before .loop .s) (c .before .loop .inv .0) (omega (arith, e, c .before .loop .inv .1))
 
 pub bucket-of-spec : {M : Type 1} → statement M
 bucket-of-spec =
@@ -53,8 +57,9 @@ bucket-of-spec =
     Inv-loop
     μ-loop
     loop-holds
-    mul-add-share
-    shared-slice-read-add-share
+    mul-turned
+    shared-slice-read-turned
+    turned-requires
     add-share-requires
     add-i
     loop-less

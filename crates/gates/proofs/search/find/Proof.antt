@@ -10,38 +10,40 @@ use denote.Ref.{now}
 use borrow.Author.Tests.{not-true, not-false}
 use borrow.Author.Needs.{needs}
 use Rattle.clauses.specs.Listing.{within, sameSet}
+use Rattle.gates.specs.Sign.{masked}
 use Rattle.gates.specs.Found.{clauseAt}
 use Rattle.gates.specs.Index.{buckets}
 use Rattle.gates.proofs.Buckets.{bucket-small}
 use Rattle.gates.proofs.ClauseChains.{Searching, searching-first, searching-next, searching-falls}
 use Rattle.gates.proofs.Places.{Ended, nowhere, there, ended-at, ended-nothing}
+use Rattle.gates.proofs.Masks.{masked-length}
 use Rattle.gates.proofs.Walks.{all-end, all-no, all-on, same-no}
 use Rattle.gates.proofs.Queries.{same-ended, same-longer}
 use Rattle.gates.proofs.search.find.Statement.{statement}
 use Rattle.gates.proofs.search.find.Tie as tie
 
 abbrev Inv-literals : tie.InvT-literals
-Inv-literals codes index q n b here i₀ i = within q (clauseAt codes here) ≡ within (drop i q) (clauseAt codes here)
+Inv-literals codes index q mask n b here m₀ i₀ m i = within (masked mask q) (clauseAt codes here) ≡ within (masked m (drop i q)) (clauseAt codes here)
 
 abbrev μ-literals : tie.MeasureT-literals
-μ-literals codes index q n b here i₀ i = length q - i
+μ-literals codes index q mask n b here m₀ i₀ m i = length q - i
 
 abbrev Inv-clauses : tie.InvT-clauses
-Inv-clauses codes index q n b₀ b = Searching codes q b
+Inv-clauses codes index q mask n b₀ b = Searching codes (masked mask q) b
 
 abbrev μ-clauses : tie.MeasureT-clauses
-μ-clauses codes index q n b₀ b = length codes - b
+μ-clauses codes index q mask n b₀ b = length codes - b
 
 bucket : (c : tie.After-bucket-of Inv-literals μ-literals Inv-clauses μ-clauses) → c .bucket-of .result < buckets
-bucket c = omega (arith, c .bucket-of .ensures, bucket-small (now (c .before .before .before .before .args .q)))
+bucket c = omega (arith, c .bucket-of .ensures, bucket-small (masked (c .before .before .before .before .args .mask) (now (c .before .before .before .before .args .q))))
 
--- every code of q was in the clause
-all-there : (c : tie.After-literals Inv-literals μ-literals Inv-clauses μ-clauses) → within (now (c .before .before .before .before .before .before .before .before .before .before .args .q)) (clauseAt (now (c .before .before .before .before .before .before .before .before .before .before .args .codes)) (c .before .before .before .before .clauses .b)) ≡ true
-all-there c = c .before .literals .inv ∙ all-end (now (c .before .before .before .before .before .before .before .before .before .before .args .q)) (c .before .literals .i) _ (c .literals-test .left)
+-- every code of q, with the mask's signs, was in the clause
+all-there : (c : tie.After-literals Inv-literals μ-literals Inv-clauses μ-clauses) → within (masked (c .before .before .before .before .before .before .before .before .before .before .args .mask) (now (c .before .before .before .before .before .before .before .before .before .before .args .q))) (clauseAt (now (c .before .before .before .before .before .before .before .before .before .before .args .codes)) (c .before .before .before .before .clauses .b)) ≡ true
+all-there c = c .before .literals .inv ∙ all-end (now (c .before .before .before .before .before .before .before .before .before .before .args .q)) (c .before .literals .i) (c .before .literals .m) _ (c .literals-test .left)
 
 -- another clause: the search goes on along the chain
-goes-on : (c : tie.Else1 Inv-literals μ-literals Inv-clauses μ-clauses) → sameSet (now (c .before .before .before .before .before .before .before .args .q)) (clauseAt (now (c .before .before .before .before .before .before .before .args .codes)) (c .before .clauses .b)) ≡ false
-    → Searching (now (c .before .before .before .before .before .before .before .args .codes)) (now (c .before .before .before .before .before .before .before .args .q)) (getD (now (c .before .before .before .before .before .before .before .args .index)) (buckets + c .before .clauses .b) 0)
+goes-on : (c : tie.Else1 Inv-literals μ-literals Inv-clauses μ-clauses) → sameSet (masked (c .before .before .before .before .before .before .before .args .mask) (now (c .before .before .before .before .before .before .before .args .q))) (clauseAt (now (c .before .before .before .before .before .before .before .args .codes)) (c .before .clauses .b)) ≡ false
+    → Searching (now (c .before .before .before .before .before .before .before .args .codes)) (masked (c .before .before .before .before .before .before .before .args .mask) (now (c .before .before .before .before .before .before .before .args .q))) (getD (now (c .before .before .before .before .before .before .before .args .index)) (buckets + c .before .clauses .b) 0)
 goes-on c e = searching-next (c .before .before .before .before .before .before .before .pre .0) (c .before .clauses .inv) (omega (arith, c .if1 .left)) e
 
 falls : (c : tie.Else1 Inv-literals μ-literals Inv-clauses μ-clauses)
@@ -49,14 +51,14 @@ falls : (c : tie.Else1 Inv-literals μ-literals Inv-clauses μ-clauses)
 falls c = searching-falls (c .before .before .before .before .before .before .before .pre .0) (c .before .clauses .inv) (omega (arith, c .if1 .left))
 
 -- where the loop is left
-ended : (c : tie.Joined1 Inv-literals μ-literals Inv-clauses μ-clauses) → Ended (now (c .before .before .before .before .before .before .before .args .codes)) (now (c .before .before .before .before .before .before .before .args .q)) (c .if1 .found)
+ended : (c : tie.Joined1 Inv-literals μ-literals Inv-clauses μ-clauses) → Ended (now (c .before .before .before .before .before .before .before .args .codes)) (masked (c .before .before .before .before .before .before .before .args .mask) (now (c .before .before .before .before .before .before .before .args .q))) (c .if1 .found)
 ended c =
     let turn = c .before .clauses in
     ⊎-elim
     (λ w. nowhere (turn .inv .passed) (w .0 .taken) (w .2))
     (λ w.
     let left : tie.After-literals Inv-literals μ-literals Inv-clauses μ-clauses = record { before = record { before = record { before = record { before = c .before; if1 = w .0 }; shared-slice-known5 = w .1 }; literals = w .2 }; literals-test = w .3 } in
-    rw (w .7) (there (turn .inv .passed) (omega (arith, w .0 .left)) (same-ended _ _ _ (c .before .before .before .before .before .before .before .pre .1 .1) (all-there left) (sym (w .4 .ensures) ∙ w .5 .taken))))
+    rw (w .7) (there (turn .inv .passed) (omega (arith, w .0 .left)) (same-ended _ _ _ _ (masked-length _ _) (c .before .before .before .before .before .before .before .pre .1 .1) (all-there left) (sym (w .4 .ensures) ∙ w .5 .taken))))
     (c .if1 .came)
 
 bucket-of-requires : tie.Need-bucket-of-requires Inv-literals μ-literals Inv-clauses μ-clauses
@@ -90,25 +92,28 @@ cast-b-2 c = omega (arith, c .shared-slice-known5 .given (buckets + c .before .b
 literals-holds : tie.Need-literals-holds Inv-literals μ-literals Inv-clauses μ-clauses
 literals-holds c = refl
 
-mul-holds : tie.Need-mul-holds Inv-literals μ-literals Inv-clauses μ-clauses
-mul-holds c = search needs
+mul-turned : tie.Need-mul-turned Inv-literals μ-literals Inv-clauses μ-clauses
+mul-turned c = search needs
 
-shared-slice-read-holds :
-    tie.Need-shared-slice-read-holds Inv-literals μ-literals Inv-clauses μ-clauses
-shared-slice-read-holds c = search needs
+shared-slice-read-turned :
+    tie.Need-shared-slice-read-turned Inv-literals μ-literals Inv-clauses μ-clauses
+shared-slice-read-turned c = search needs
+
+turned-requires : tie.Need-turned-requires Inv-literals μ-literals Inv-clauses μ-clauses
+turned-requires c κs = search needs
 
 holds-requires : tie.Need-holds-requires Inv-literals μ-literals Inv-clauses μ-clauses
 holds-requires c κs = search needs
 
 clauses-less : tie.Need-clauses-less Inv-literals μ-literals Inv-clauses μ-clauses
-clauses-less c = falls (c .before .before .before .before .before .before)
+clauses-less c = falls (c .before .before .before .before .before .before .before)
 
 clauses-again : tie.Need-clauses-again Inv-literals μ-literals Inv-clauses μ-clauses
 clauses-again c =
-    let step = c .before .before .before .before .literals in
-    goes-on (c .before .before .before .before .before .before)
+    let step = c .before .before .before .before .before .literals in
+    goes-on (c .before .before .before .before .before .before .before)
     (same-no _ _
-    (step .inv ∙ all-no (now (c .before .before .before .before .before .before .before .before .before .before .before .before .before .args .q)) (step .i) _ (c .before .before .before .literals-test .taken) (sym (c .before .holds .ensures) ∙ not-true _ (c .if2 .taken))))
+    (step .inv ∙ all-no (now (c .before .before .before .before .before .before .before .before .before .before .before .before .before .before .args .q)) (step .i) (step .m) _ (c .before .before .before .before .literals-test .taken) (rw (c .before .before .turned .ensures) at (sym (c .before .holds .ensures) ∙ not-true _ (c .if2 .taken)))))
 
 add-i : tie.Need-add-i Inv-literals μ-literals Inv-clauses μ-clauses
 add-i c = search needs
@@ -118,8 +123,8 @@ literals-less c = search needs
 
 literals-again : tie.Need-literals-again Inv-literals μ-literals Inv-clauses μ-clauses
 literals-again c =
-    let step = c .before .before .before .before .literals in
-    step .inv ∙ all-on (now (c .before .before .before .before .before .before .before .before .before .before .before .before .before .args .q)) (step .i) _ (c .before .before .before .literals-test .taken) (sym (c .before .holds .ensures) ∙ not-false _ (c .if2 .left))
+    let step = c .before .before .before .before .before .literals in
+    step .inv ∙ all-on (now (c .before .before .before .before .before .before .before .before .before .before .before .before .before .before .args .q)) (step .i) (step .m) _ (c .before .before .before .before .literals-test .taken) (rw (c .before .before .turned .ensures) at (sym (c .before .holds .ensures) ∙ not-false _ (c .if2 .left)))
 
 add-literal : tie.Need-add-literal Inv-literals μ-literals Inv-clauses μ-clauses
 add-literal c = omega (arith, c .before .before .before .if1 .left, c .before .before .before .before .before .before .before .before .before .before .good)
@@ -131,7 +136,7 @@ clauses-less-2 : tie.Need-clauses-less-2 Inv-literals μ-literals Inv-clauses μ
 clauses-less-2 c = falls (c .before .before .before .before .before)
 
 clauses-again-2 : tie.Need-clauses-again-2 Inv-literals μ-literals Inv-clauses μ-clauses
-clauses-again-2 c = goes-on (c .before .before .before .before .before) (same-longer _ _ _ (c .before .before .before .before .before .before .before .before .before .before .before .before .pre .1 .1) (c .before .before .before .before .before .before .before .before .before .before .before .before .pre .1 .0) (c .before .before .before .before .before .before .clauses .inv .passed .start (omega (arith, c .before .before .before .before .before .if1 .left))) (λ e. c .if3 .left (c .before .literal .ensures ∙ e)))
+clauses-again-2 c = goes-on (c .before .before .before .before .before) (same-longer _ _ _ _ (masked-length _ _) (c .before .before .before .before .before .before .before .before .before .before .before .before .pre .1 .1) (c .before .before .before .before .before .before .before .before .before .before .before .before .pre .1 .0) (c .before .before .before .before .before .before .clauses .inv .passed .start (omega (arith, c .before .before .before .before .before .if1 .left))) (λ e. c .if3 .left (c .before .literal .ensures ∙ e)))
 
 returns : tie.Need-returns Inv-literals μ-literals Inv-clauses μ-clauses
 returns c = ended-at (ended (c .before)) (c .if4 .taken)
@@ -157,8 +162,9 @@ find-spec =
     shared-slice-read-b-2
     cast-b-2
     literals-holds
-    mul-holds
-    shared-slice-read-holds
+    mul-turned
+    shared-slice-read-turned
+    turned-requires
     holds-requires
     clauses-less
     clauses-again

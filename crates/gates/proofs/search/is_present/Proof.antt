@@ -1,7 +1,6 @@
 -- `gates::search::is_present` meets its contract.
 -- Assumes nothing.
 use mathlib.Core.Path.{sym, _∙_}
-use denote.Ref.{now}
 use borrow.Author.Needs.{needs}
 use Rattle.gates.proofs.Places.{place-present, nothing-present}
 use Rattle.gates.proofs.search.is_present.Statement.{statement}
@@ -17,14 +16,10 @@ enum-told-2 : tie.Need-enum-told-2
 enum-told-2 c = search needs
 
 returns : tie.Need-returns
-returns c =
-    let start = c .before .before .before .before .before .before in
-    sym (place-present (now (start .args .codes)) (now (start .args .q)) (start .pre .1 .0 .proper) (sym (c .before .before .find .ensures) ∙ c .enum-told .given .1))
+returns c = sym (place-present _ _ (c .before .before .before .before .before .before .pre .1 .0 .proper) (sym (c .before .before .find .ensures) ∙ c .enum-told .given .1))
 
 returns-2 : tie.Need-returns-2
-returns-2 c =
-    let start = c .before .before .before .before .before .before in
-    sym (nothing-present (now (start .args .codes)) (now (start .args .q)) (sym (c .before .before .find .ensures) ∙ c .enum-told2 .given .1))
+returns-2 c = sym (nothing-present _ _ (sym (c .before .before .find .ensures) ∙ c .enum-told2 .given .1))
 
 pub is-present-spec : {M : Type 1} → statement M
 is-present-spec = tie.close (tie.spec find-requires enum-told enum-told-2 returns returns-2)

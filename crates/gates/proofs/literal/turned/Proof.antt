@@ -1,10 +1,10 @@
--- `gates::xor::turned` meets its contract.
+-- `gates::literal::turned` meets its contract.
 -- Assumes nothing.
 use native.Mathlib.Omega.{arith}
 use Rattle.gates.proofs.Signs.{inverse-of-odd, plain-of-even}
 use borrow.Author.Needs.{needs}
-use Rattle.gates.proofs.xor.turned.Statement.{statement}
-use Rattle.gates.proofs.xor.turned.Tie as tie
+use Rattle.gates.proofs.literal.turned.Statement.{statement}
+use Rattle.gates.proofs.literal.turned.Tie as tie
 
 inverse-requires : tie.Need-inverse-requires
 inverse-requires c κs = search needs
