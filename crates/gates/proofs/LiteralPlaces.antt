@@ -71,12 +71,5 @@ module _ {row : List ℕ} {b x p : ℕ} where
         go (yes h) = absurd (literal-some row b p (f .low) h e)
         go (no m) = f .none (omega (arith, f .high))
 
-    pub place-mem : not (eqb (getD row p 0) 0) ≡ mem x (clauseAt row b)
-    place-mem = go (ℕ-discrete (getD row p 0) 0)
-      where
-        go : Dec (getD row p 0 ≡ 0) → not (eqb (getD row p 0) 0) ≡ mem x (clauseAt row b)
-        go (yes e) = rw (eq-eqb _ _ e) (sym (place-none e))
-        go (no n) = eqb-not _ _ n ∙ sym (place-some n)
-
     pub place-next : getD row p 0 ≢ 0 → p + 1 ≤ b + length (clauseAt row b)
     place-next n = omega (arith, inside n)

@@ -4,10 +4,11 @@ use mathlib.Core.Path.{_≡_, refl, sym, _∙_, ap, ap₂}
 use mathlib.Core.Logic.{_≢_, _⊎_, inl, inr}
 use mathlib.Core.Bool.{Bool, true, false, not, Bool·not-not}
 use mathlib.Core.List.{List, [], _∷_, _++_, List·Memᴰ·head, List·Memᴰ·tail, Memᴰ·cast}
-use Prim.Native.Nat.{ℕ, _*_, _%_}
+use Prim.Native.Nat.{ℕ, _+_, _*_, _/_, _%_}
 use native.Mathlib.Omega.{arith}
 use native.Mathlib.Decide.{ℕ-discrete}
 use lib.Dec.{eqb}
+use lib.Bits.{differ, bitXor, xor-step, xor-zero-r}
 use borrow.Author.Tests.{eq-eqb, ne-eqb}
 use Rattle.clauses.specs.Code.{negate, net}
 use Rattle.clauses.specs.Clause.{Mem, Within, Same}
@@ -80,6 +81,21 @@ plain-of-even c e = ne-eqb (c % 2) 1 (λ q. not-both e q)
   where
     not-both : c % 2 ≡ 0 → c % 2 ≡ 1 → ⊥
     not-both p q = omega arith
+
+-- a literal is inverted in its lowest bit
+xor-one : (c : ℕ) → bitXor c 1 ≡ negate c
+xor-one c = xor-step c 1 ∙ ap (λ (n : ℕ). n * 2 + differ (c % 2) 1) (xor-zero-r (c / 2)) ∙ go (odd-cases c)
+  where
+    go : (c % 2 ≡ 0) ⊎ (c % 2 ≡ 1) → c / 2 * 2 + differ (c % 2) 1 ≡ negate c
+    go (inl e) = rw e (omega arith)
+    go (inr e) = rw e (omega arith)
+
+pub xor-flip : (m c : ℕ) → bitXor c (m % 2) ≡ flip (isInverse m) c
+xor-flip m c = go (odd-cases m)
+  where
+    go : (m % 2 ≡ 0) ⊎ (m % 2 ≡ 1) → bitXor c (m % 2) ≡ flip (isInverse m) c
+    go (inl e) = rw (plain-of-even m e, e) (xor-zero-r c)
+    go (inr e) = rw (inverse-of-odd m e, e) (xor-one c)
 
 pub isInverse-negate : (c : ℕ) → isInverse (negate c) ≡ not (isInverse c)
 isInverse-negate c = go (odd-cases c)

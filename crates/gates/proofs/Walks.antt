@@ -6,7 +6,7 @@ use mathlib.Core.Bool.{true, false}
 use mathlib.Core.List.{List, [], _∷_}
 use Prim.Native.Nat.{ℕ, _+_, _/_, _≤_, _<_}
 use lib.ListN.{length, getD, drop}
-use borrow.Author.Tests.{ne-eqb}
+use borrow.Author.Tests.{eq-eqb, ne-eqb}
 use Rattle.clauses.specs.Lists.{any, all}
 use Rattle.clauses.specs.Listing.{mem, within, sameSet}
 use Rattle.gates.specs.Sign.{flip, isInverse, masked}
@@ -17,6 +17,10 @@ use Rattle.gates.proofs.Rows.{clause-stops, clause-goes-on}
 mem-none : (x : ℕ) → mem x [] ≡ false
 unfolding mem any
 mem-none x = refl
+
+mem-here : (x y : ℕ) (c : List ℕ) → y ≡ x → mem x (y ∷ c) ≡ true
+unfolding mem any
+mem-here x y c e = rw (eq-eqb x y (sym e), any)
 
 mem-later : (x y : ℕ) (c : List ℕ) → y ≢ x → mem x (y ∷ c) ≡ mem x c
 unfolding mem any
@@ -58,6 +62,9 @@ module _ (row : List ℕ) (i : ℕ) where
   module _ (x : ℕ) where
     pub holds-stop : getD row i 0 ≡ 0 → mem x (clauseAt row i) ≡ false
     holds-stop e = ap (mem x) (clause-stops row i e) ∙ mem-none x
+
+    pub holds-here : getD row i 0 ≢ 0 → getD row i 0 ≡ x → mem x (clauseAt row i) ≡ true
+    holds-here n e = ap (mem x) (clause-goes-on row i n) ∙ mem-here x (getD row i 0) (clauseAt row (i + 1)) e
 
     pub holds-on : getD row i 0 ≢ 0 → getD row i 0 ≢ x → mem x (clauseAt row i) ≡ mem x (clauseAt row (i + 1))
     holds-on n m = ap (mem x) (clause-goes-on row i n) ∙ mem-later x (getD row i 0) (clauseAt row (i + 1)) m

@@ -15,5 +15,5 @@ pub fn inverse(x: u32) -> u32
 pub fn turned(x: u32, mask: u32) -> u32
     ensures { λ r. ⌜ r ≡ flip (isInverse mask) x ⌝ }
 {
-    if mask % 2 == 1 { inverse(x) } else { x }
+    x ^ (mask % 2)
 }

@@ -4,7 +4,6 @@ ghost use mathlib.Core.Path.{_≡_};
 ghost use Prim.Native.Nat.{_+_};
 ghost use lib.ListN.{length, getD};
 ghost use Rattle.gates.specs.Found.{clauseAt};
-ghost use Rattle.gates.specs.Search.{PlaceOf};
 
 // The literal at a place, 0 at a clause's end and past the row's.
 pub fn literal(codes: &[u32], at: usize) -> u32
@@ -25,21 +24,4 @@ pub fn clause_end(codes: &[u32], b: usize) -> usize
         i += 1;
     }
     i
-}
-
-// A place of x in the clause at b, or the clause's end if x is none of its literals.
-pub fn place_of(codes: &[u32], b: usize, x: u32) -> usize
-    ensures { λ r. ⌜ PlaceOf (now (codes .entry)) b x r ⌝ }
-{
-    let mut i = b;
-    loop {
-        let y = literal(codes, i);
-        if y == 0 {
-            return i;
-        }
-        if y == x {
-            return i;
-        }
-        i += 1;
-    }
 }

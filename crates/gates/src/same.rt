@@ -9,7 +9,6 @@ ghost use Rattle.clauses.specs.Listing.{within, sameSet};
 ghost use Rattle.gates.specs.Found.{clauseAt};
 ghost use Rattle.gates.specs.Search.{PlaceOf, GoesOn};
 use crate::place::literal;
-use crate::place::place_of;
 
 // Entries of a block.
 const BLOCK: usize = 32;
@@ -58,9 +57,25 @@ fn skip_blocks(codes: &[u32], b: usize, x: u32) -> usize
     i
 }
 
-// A place of x in the clause at b, or the clause's end if x is none of its literals. Where the literal before it was found, `next` is the place
-// behind: the literals on either side of that one are looked at first, so that two clauses with one order, or one turned round, take a step for
-// each literal.
+// A place of x in the clause at b, or the clause's end if x is none of its literals.
+fn place_of(codes: &[u32], b: usize, x: u32) -> usize
+    ensures { λ r. ⌜ PlaceOf (now (codes .entry)) b x r ⌝ }
+{
+    let mut i = skip_blocks(codes, b, x);
+    loop {
+        let y = literal(codes, i);
+        if y == 0 {
+            return i;
+        }
+        if y == x {
+            return i;
+        }
+        i += 1;
+    }
+}
+
+// .. Where the literal before it was found, `next` is the place behind: the literals on either side of that one are looked at first, so that two
+// clauses with one order, or one turned round, take a step for each literal.
 fn place_near(codes: &[u32], b: usize, next: usize, x: u32) -> usize
     requires { ⌜ (b ≤ next) × (next ≤ b + length (clauseAt (now codes) b)) ⌝ }
     requires { ⌜ 1 ≤ x ⌝ }
@@ -74,7 +89,7 @@ fn place_near(codes: &[u32], b: usize, next: usize, x: u32) -> usize
             return next - 2;
         }
     }
-    place_of(codes, skip_blocks(codes, b, x), x)
+    place_of(codes, b, x)
 }
 
 // Whether every literal of the clause at a is one of the clause at b.

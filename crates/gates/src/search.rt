@@ -4,7 +4,6 @@ use crate::index::BUCKETS;
 use crate::index::bucket_of;
 use crate::literal::turned;
 use crate::place::literal;
-use crate::place::place_of;
 ghost use mathlib.Core.Path.{_≡_};
 ghost use Rattle.clauses.specs.Clause.{clausesIn};
 ghost use Rattle.clauses.specs.Listing.{mem, present};
@@ -24,8 +23,14 @@ pub enum Place {
 pub fn holds(codes: &[u32], b: usize, x: u32) -> bool
     ensures { λ r. ⌜ r ≡ mem x (clauseAt (now (codes .entry)) b) ⌝ }
 {
-    let p = place_of(codes, b, x);
-    literal(codes, p) != 0
+    let mut i = b;
+    while literal(codes, i) != 0 {
+        if literal(codes, i) == x {
+            return true;
+        }
+        i += 1;
+    }
+    false
 }
 
 // The first clause with exactly the literals of q, those inverted whose bit is set in the mask: it holds all of them, and it ends behind as

@@ -32,14 +32,11 @@ returns-2 c =
     let start = c .before .before .before .before .before .before in
     place-within (omega (arith, c .before .before .if2 .taken, start .pre .0 .0)) (omega (arith, start .pre .0 .1)) (start .pre .1) (sym (c .before .literal2 .ensures) ∙ c .if3 .taken)
 
-skip-blocks-requires : tie.Need-skip-blocks-requires
-skip-blocks-requires c κs = search needs
-
 place-of-requires : tie.Need-place-of-requires
 place-of-requires c κs = search needs
 
 returns-3 : tie.Need-returns-3
-returns-3 c = c .before .skip-blocks .ensures _ (c .place-of .ensures)
+returns-3 c = search needs
 
 pub place-near-spec : {M : Type 1} → statement M
 place-near-spec =
@@ -52,6 +49,5 @@ place-near-spec =
     literal-requires-2
     sub-result
     returns-2
-    skip-blocks-requires
     place-of-requires
     returns-3)

@@ -1,4 +1,4 @@
--- `gates::place::place_of` meets its contract.
+-- `gates::same::place_of` meets its contract.
 -- Assumes nothing.
 use mathlib.Core.Path.{_≡_, sym, _∙_}
 use mathlib.Core.Logic.{_≢_}
@@ -10,8 +10,8 @@ use borrow.Author.Needs.{needs}
 use Rattle.gates.specs.Search.{GoesOn}
 use Rattle.gates.proofs.Rows.{literal-within}
 use Rattle.gates.proofs.LiteralPlaces.{place-stop, place-here, place-on}
-use Rattle.gates.proofs.place.place_of.Statement.{statement}
-use Rattle.gates.proofs.place.place_of.Tie as tie
+use Rattle.gates.proofs.same.place_of.Statement.{statement}
+use Rattle.gates.proofs.same.place_of.Tie as tie
 
 abbrev Inv-loop : tie.InvT-loop
 Inv-loop codes b x i₀ i = GoesOn codes x b i
@@ -20,14 +20,17 @@ abbrev μ-loop : tie.MeasureT-loop
 μ-loop codes b x i₀ i = length codes - i
 
 -- at a literal
-some : (c : tie.Else1 Inv-loop μ-loop) → getD (now (c .before .before .before .before .args .codes)) (c .before .before .loop .i) 0 ≢ 0
+some : (c : tie.Else1 Inv-loop μ-loop) → getD (now (c .before .before .before .before .before .args .codes)) (c .before .before .loop .i) 0 ≢ 0
 some c e = c .if1 .left (c .before .literal .ensures ∙ e)
 
-inside : (c : tie.Else1 Inv-loop μ-loop) → c .before .before .loop .i < length (now (c .before .before .before .before .args .codes))
-inside c = literal-within (now (c .before .before .before .before .args .codes)) (c .before .before .loop .i) (some c)
+inside : (c : tie.Else1 Inv-loop μ-loop) → c .before .before .loop .i < length (now (c .before .before .before .before .before .args .codes))
+inside c = literal-within (now (c .before .before .before .before .before .args .codes)) (c .before .before .loop .i) (some c)
+
+skip-blocks-requires : tie.Need-skip-blocks-requires Inv-loop μ-loop
+skip-blocks-requires c κs = search needs
 
 loop-holds : tie.Need-loop-holds Inv-loop μ-loop
-loop-holds c p f = f
+loop-holds c = c .skip-blocks .ensures
 
 literal-requires : tie.Need-literal-requires Inv-loop μ-loop
 literal-requires c κs = search needs
@@ -39,7 +42,7 @@ returns-2 : tie.Need-returns-2 Inv-loop μ-loop
 returns-2 c = c .before .before .before .loop .inv _ (place-here _ _ _ (some (c .before)) (sym (c .before .before .literal .ensures) ∙ c .if2 .taken))
 
 add-i : tie.Need-add-i Inv-loop μ-loop
-add-i c = omega (arith, inside (c .before), c .before .before .before .before .before .good)
+add-i c = omega (arith, inside (c .before), c .before .before .before .before .before .before .good)
 
 loop-less : tie.Need-loop-less Inv-loop μ-loop
 loop-less c = omega (arith, inside (c .before))
@@ -53,6 +56,7 @@ place-of-spec =
     (tie.spec
     Inv-loop
     μ-loop
+    skip-blocks-requires
     loop-holds
     literal-requires
     returns
