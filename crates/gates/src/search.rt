@@ -33,8 +33,8 @@ pub fn holds(codes: &[u32], b: usize, x: u32) -> bool
     false
 }
 
-// The first clause with exactly the literals of q, those inverted whose bit is set in the mask: it holds all of them, and it ends behind as
-// many.
+// The first clause with exactly the literals of q, those inverted whose bit is set in the mask: it has no more literals than these, and holds
+// all of them.
 fn find(codes: &[u32], index: &[u32], q: &[u32], mask: u32) -> Place
     requires { ⌜ Indexed (now codes) (now index) ⌝ }
     requires { ⌜ Normal (now codes) ⌝ }
@@ -49,6 +49,9 @@ fn find(codes: &[u32], index: &[u32], q: &[u32], mask: u32) -> Place
         }
         let here = b;
         b = index[BUCKETS + here] as usize;
+        if literal(codes, here + q.len()) != 0 {
+            continue 'clauses;
+        }
         let mut m = mask;
         let mut i = 0;
         'literals: while i < q.len() {
@@ -58,9 +61,7 @@ fn find(codes: &[u32], index: &[u32], q: &[u32], mask: u32) -> Place
             m = m / 2;
             i += 1;
         }
-        if literal(codes, here + q.len()) == 0 {
-            break 'clauses here;
-        }
+        break 'clauses here;
     };
     if found < n {
         return Place::At(found);

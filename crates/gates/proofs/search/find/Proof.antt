@@ -38,8 +38,8 @@ bucket : (c : tie.After-bucket-of Inv-literals μ-literals Inv-clauses μ-clause
 bucket c = omega (arith, c .bucket-of .ensures, bucket-small (masked (c .before .before .before .before .args .mask) (now (c .before .before .before .before .args .q))))
 
 -- every code of q, with the mask's signs, was in the clause
-all-there : (c : tie.After-literals Inv-literals μ-literals Inv-clauses μ-clauses) → within (masked (c .before .before .before .before .before .before .before .before .before .before .args .mask) (now (c .before .before .before .before .before .before .before .before .before .before .args .q))) (clauseAt (now (c .before .before .before .before .before .before .before .before .before .before .args .codes)) (c .before .before .before .before .clauses .b)) ≡ true
-all-there c = c .before .literals .inv ∙ all-end (now (c .before .before .before .before .before .before .before .before .before .before .args .q)) (c .before .literals .i) (c .before .literals .m) _ (c .literals-test .left)
+all-there : (c : tie.After-literals Inv-literals μ-literals Inv-clauses μ-clauses) → within (masked (c .before .before .before .before .before .before .before .before .before .before .before .before .args .mask) (now (c .before .before .before .before .before .before .before .before .before .before .before .before .args .q))) (clauseAt (now (c .before .before .before .before .before .before .before .before .before .before .before .before .args .codes)) (c .before .before .before .before .before .before .clauses .b)) ≡ true
+all-there c = c .before .literals .inv ∙ all-end (now (c .before .before .before .before .before .before .before .before .before .before .before .before .args .q)) (c .before .literals .i) (c .before .literals .m) _ (c .literals-test .left)
 
 -- another clause: the search goes on along the chain
 goes-on : (c : tie.Else1 Inv-literals μ-literals Inv-clauses μ-clauses) → sameSet (masked (c .before .before .before .before .before .before .before .args .mask) (now (c .before .before .before .before .before .before .before .args .q))) (clauseAt (now (c .before .before .before .before .before .before .before .args .codes)) (c .before .clauses .b)) ≡ false
@@ -57,8 +57,8 @@ ended c =
     ⊎-elim
     (λ w. nowhere (turn .inv .passed) (w .0 .taken) (w .2))
     (λ w.
-    let left : tie.After-literals Inv-literals μ-literals Inv-clauses μ-clauses = record { before = record { before = record { before = record { before = c .before; if1 = w .0 }; shared-slice-known5 = w .1 }; literals = w .2 }; literals-test = w .3 } in
-    rw (w .7) (there (turn .inv .passed) (omega (arith, w .0 .left)) (same-ended _ _ _ _ (masked-length _ _) (c .before .before .before .before .before .before .before .pre .1 .1) (all-there left) (sym (w .4 .ensures) ∙ w .5 .taken))))
+    let left : tie.After-literals Inv-literals μ-literals Inv-clauses μ-clauses = record { before = record { before = record { before = record { before = record { before = record { before = c .before; if1 = w .0 }; shared-slice-known5 = w .1 }; literal = w .2 }; if2 = w .3 }; literals = w .4 }; literals-test = w .5 } in
+    rw (w .7) (there (turn .inv .passed) (omega (arith, w .0 .left)) (same-ended _ _ _ _ (masked-length _ _) (c .before .before .before .before .before .before .before .pre .1 .1) (all-there left) (sym (w .2 .ensures) ∙ w .3 .left))))
     (c .if1 .came)
 
 bucket-of-requires : tie.Need-bucket-of-requires Inv-literals μ-literals Inv-clauses μ-clauses
@@ -89,6 +89,21 @@ shared-slice-read-b-2 c = omega (arith, c .before .if1 .left, c .before .before 
 cast-b-2 : tie.Need-cast-b-2 Inv-literals μ-literals Inv-clauses μ-clauses
 cast-b-2 c = omega (arith, c .shared-slice-known5 .given (buckets + c .before .before .clauses .b))
 
+add-literal : tie.Need-add-literal Inv-literals μ-literals Inv-clauses μ-clauses
+add-literal c = omega (arith, c .before .if1 .left, c .before .before .before .before .before .before .before .before .good)
+
+literal-requires : tie.Need-literal-requires Inv-literals μ-literals Inv-clauses μ-clauses
+literal-requires c κs = search needs
+
+clauses-less : tie.Need-clauses-less Inv-literals μ-literals Inv-clauses μ-clauses
+clauses-less c = falls (c .before .before .before)
+
+clauses-again : tie.Need-clauses-again Inv-literals μ-literals Inv-clauses μ-clauses
+clauses-again c =
+    let start = c .before .before .before .before .before .before .before .before .before .before in
+    goes-on (c .before .before .before)
+    (same-longer _ _ _ _ (masked-length _ _) (start .pre .1 .1) (start .pre .1 .0) (c .before .before .before .before .clauses .inv .passed .start (omega (arith, c .before .before .before .if1 .left))) (λ e. c .if2 .taken (c .before .literal .ensures ∙ e)))
+
 literals-holds : tie.Need-literals-holds Inv-literals μ-literals Inv-clauses μ-clauses
 literals-holds c = refl
 
@@ -105,15 +120,15 @@ turned-requires c κs = search needs
 holds-requires : tie.Need-holds-requires Inv-literals μ-literals Inv-clauses μ-clauses
 holds-requires c κs = search needs
 
-clauses-less : tie.Need-clauses-less Inv-literals μ-literals Inv-clauses μ-clauses
-clauses-less c = falls (c .before .before .before .before .before .before .before)
+clauses-less-2 : tie.Need-clauses-less-2 Inv-literals μ-literals Inv-clauses μ-clauses
+clauses-less-2 c = falls (c .before .before .before .before .before .before .before .before .before)
 
-clauses-again : tie.Need-clauses-again Inv-literals μ-literals Inv-clauses μ-clauses
-clauses-again c =
+clauses-again-2 : tie.Need-clauses-again-2 Inv-literals μ-literals Inv-clauses μ-clauses
+clauses-again-2 c =
     let step = c .before .before .before .before .before .literals in
-    goes-on (c .before .before .before .before .before .before .before)
+    goes-on (c .before .before .before .before .before .before .before .before .before)
     (same-no _ _
-    (step .inv ∙ all-no (now (c .before .before .before .before .before .before .before .before .before .before .before .before .before .before .args .q)) (step .i) (step .m) _ (c .before .before .before .before .literals-test .taken) (rw (c .before .before .turned .ensures) at (sym (c .before .holds .ensures) ∙ not-true _ (c .if2 .taken)))))
+    (step .inv ∙ all-no (now (c .before .before .before .before .before .before .before .before .before .before .before .before .before .before .before .before .args .q)) (step .i) (step .m) _ (c .before .before .before .before .literals-test .taken) (rw (c .before .before .turned .ensures) at (sym (c .before .holds .ensures) ∙ not-true _ (c .if3 .taken)))))
 
 add-i : tie.Need-add-i Inv-literals μ-literals Inv-clauses μ-clauses
 add-i c = search needs
@@ -124,19 +139,7 @@ literals-less c = search needs
 literals-again : tie.Need-literals-again Inv-literals μ-literals Inv-clauses μ-clauses
 literals-again c =
     let step = c .before .before .before .before .before .literals in
-    step .inv ∙ all-on (now (c .before .before .before .before .before .before .before .before .before .before .before .before .before .before .args .q)) (step .i) (step .m) _ (c .before .before .before .before .literals-test .taken) (rw (c .before .before .turned .ensures) at (sym (c .before .holds .ensures) ∙ not-false _ (c .if2 .left)))
-
-add-literal : tie.Need-add-literal Inv-literals μ-literals Inv-clauses μ-clauses
-add-literal c = omega (arith, c .before .before .before .if1 .left, c .before .before .before .before .before .before .before .before .before .before .good)
-
-literal-requires : tie.Need-literal-requires Inv-literals μ-literals Inv-clauses μ-clauses
-literal-requires c κs = search needs
-
-clauses-less-2 : tie.Need-clauses-less-2 Inv-literals μ-literals Inv-clauses μ-clauses
-clauses-less-2 c = falls (c .before .before .before .before .before)
-
-clauses-again-2 : tie.Need-clauses-again-2 Inv-literals μ-literals Inv-clauses μ-clauses
-clauses-again-2 c = goes-on (c .before .before .before .before .before) (same-longer _ _ _ _ (masked-length _ _) (c .before .before .before .before .before .before .before .before .before .before .before .before .pre .1 .1) (c .before .before .before .before .before .before .before .before .before .before .before .before .pre .1 .0) (c .before .before .before .before .before .before .clauses .inv .passed .start (omega (arith, c .before .before .before .before .before .if1 .left))) (λ e. c .if3 .left (c .before .literal .ensures ∙ e)))
+    step .inv ∙ all-on (now (c .before .before .before .before .before .before .before .before .before .before .before .before .before .before .before .before .args .q)) (step .i) (step .m) _ (c .before .before .before .before .literals-test .taken) (rw (c .before .before .turned .ensures) at (sym (c .before .holds .ensures) ∙ not-false _ (c .if3 .left)))
 
 returns : tie.Need-returns Inv-literals μ-literals Inv-clauses μ-clauses
 returns c = ended-at (ended (c .before)) (c .if4 .taken)
@@ -161,19 +164,19 @@ find-spec =
     mul-b-2
     shared-slice-read-b-2
     cast-b-2
+    add-literal
+    literal-requires
+    clauses-less
+    clauses-again
     literals-holds
     mul-turned
     shared-slice-read-turned
     turned-requires
     holds-requires
-    clauses-less
-    clauses-again
+    clauses-less-2
+    clauses-again-2
     add-i
     literals-less
     literals-again
-    add-literal
-    literal-requires
-    clauses-less-2
-    clauses-again-2
     returns
     returns-2)
