@@ -2,46 +2,59 @@
 -- Assumes nothing.
 use mathlib.Core.Path.{_≡_, sym, _∙_, ap, subst}
 use mathlib.Core.Logic.{_≢_}
-use mathlib.Core.Bool.{true, false, not, _||_, true≢false}
+use mathlib.Core.Bool.{true, false, _||_, true≢false}
 use mathlib.Core.List.{List}
 use Prim.Native.Nat.{ℕ, _+_, _≤_, _<_}
 use native.Mathlib.Omega.{arith}
 use native.Mathlib.Decide.{decLt, ℕ-discrete}
 use lib.Dec.{eqb}
 use lib.ListN.{length, getD}
-use borrow.Author.Tests.{eq-eqb}
+use borrow.Author.Tests.{eq-eqb, ne-eqb, eqb-true}
 use Rattle.clauses.specs.Clause.{Mem}
 use Rattle.clauses.specs.Listing.{mem}
-use Rattle.clauses.proofs.Lists.{eqb-not, or-left, or-right}
+use Rattle.clauses.proofs.Lists.{or-left, or-right}
 use Rattle.clauses.proofs.Clauses.{in-mem}
 use Rattle.gates.specs.Found.{clauseAt}
 use Rattle.gates.specs.Search.{PlaceOf, GoesOn}
-use Rattle.gates.proofs.Rows.{clause-stops, clause-goes-on, clause-ended, literal-some, place-in}
+use Rattle.gates.proofs.Rows.{literal-within, clause-stops, clause-goes-on, clause-ended, literal-some, place-in}
 use Rattle.gates.proofs.Walks.{holds-stop, holds-on}
 
--- A search from place i on
+-- A search that has come to place i
 
-module _ (row : List ℕ) (i x : ℕ) where
-  pub place-stop : getD row i 0 ≡ 0 → PlaceOf row i x i
-  place-stop e =
+module _ (row : List ℕ) (x i : ℕ) where
+  -- the clause ends there
+  stops : getD row i 0 ≡ 0 → PlaceOf row i x i
+  stops e =
       let z = ap length (clause-stops row i e) in
       record { low = omega arith; high = omega arith; here = λ h. absurd (omega arith); none = λ h. holds-stop row i x e }
 
-  pub place-here : getD row i 0 ≢ 0 → getD row i 0 ≡ x → PlaceOf row i x i
-  place-here n e =
+  -- a literal
+  finds : getD row i 0 ≢ 0 → getD row i 0 ≡ x → PlaceOf row i x i
+  finds n e =
       let z = ap length (clause-goes-on row i n) in
       record { low = omega arith; high = omega arith; here = λ h. e; none = λ h. absurd (omega arith) }
 
-  -- the rest of the clause decides
-  pub place-on : getD row i 0 ≢ 0 → getD row i 0 ≢ x → GoesOn row x i (i + 1)
-  place-on n m p f =
+  passes : getD row i 0 ≢ 0 → getD row i 0 ≢ x → GoesOn row x i (i + 1)
+  passes n m p f =
       let z = ap length (clause-goes-on row i n) in
       record { low = omega (arith, f .low); high = omega (arith, f .high); here = λ h. f .here (omega arith); none = λ h. holds-on row i x n m ∙ f .none (omega arith) }
 
-pub goes-past : {row : List ℕ} {x b i : ℕ} → GoesOn row x b i → (eqb (getD row i 0) 0 || eqb (getD row i 0) x) ≡ false → GoesOn row x b (i + 1)
-goes-past {row} {x} {b} {i} k e p f =
-    k p
-    (place-on row i x (λ z. true≢false (sym (or-left (eqb (getD row i 0) x) (eq-eqb _ _ z)) ∙ e)) (λ z. true≢false (sym (or-right (eqb (getD row i 0) 0) (eq-eqb _ _ z)) ∙ e)) p f)
+  module _ (e : (eqb (getD row i 0) 0 || eqb (getD row i 0) x) ≡ false) where
+    some : getD row i 0 ≢ 0
+    some z = true≢false (sym (or-left (eqb (getD row i 0) x) (eq-eqb _ _ z)) ∙ e)
+
+    pub past-inside : i < length row
+    past-inside = literal-within row i some
+
+    pub goes-past : (b : ℕ) → GoesOn row x b i → GoesOn row x b (i + 1)
+    goes-past b k p f = k p (passes some (λ z. true≢false (sym (or-right (eqb (getD row i 0) 0) (eq-eqb _ _ z)) ∙ e)) p f)
+
+  pub comes-to : (eqb (getD row i 0) 0 || eqb (getD row i 0) x) ≡ true → (b : ℕ) → GoesOn row x b i → PlaceOf row b x i
+  comes-to e b k = k i (go (ℕ-discrete (getD row i 0) 0))
+    where
+      go : Dec (getD row i 0 ≡ 0) → PlaceOf row i x i
+      go (yes z) = stops z
+      go (no n) = finds n (eqb-true (getD row i 0) x (rw (ne-eqb _ _ n) at e))
 
 -- A place that was found
 

@@ -23,7 +23,7 @@ fn is_either(y: u32, x: u32) -> bool
     y == x
 }
 
-// Whether there is such an entry from place b to end. The loop is not left early, so that the compiler takes several entries at a time.
+// Whether there is such an entry from b to end. The loop is not left early, so that the compiler takes several entries at a time.
 fn has_either(codes: &[u32], b: usize, end: usize, x: u32) -> bool
     requires { ⌜ (b ≤ end) × (end ≤ length (now codes)) ⌝ }
     ensures { λ r. ⌜ (r ≡ false → GoesOn (now (codes .entry)) x b end) ⌝ }
@@ -39,7 +39,7 @@ fn has_either(codes: &[u32], b: usize, end: usize, x: u32) -> bool
     found
 }
 
-// A place from b on before which there is none: blocks without one are left behind.
+// A place from b on with no such entry before it: blocks without one are left behind.
 fn skip_blocks(codes: &[u32], b: usize, x: u32) -> usize
     ensures { λ r. ⌜ GoesOn (now (codes .entry)) x b r ⌝ }
 {
@@ -62,20 +62,14 @@ fn place_of(codes: &[u32], b: usize, x: u32) -> usize
     ensures { λ r. ⌜ PlaceOf (now (codes .entry)) b x r ⌝ }
 {
     let mut i = skip_blocks(codes, b, x);
-    loop {
-        let y = literal(codes, i);
-        if y == 0 {
-            return i;
-        }
-        if y == x {
-            return i;
-        }
+    while !is_either(literal(codes, i), x) {
         i += 1;
     }
+    i
 }
 
-// .. Where the literal before it was found, `next` is the place behind: the literals on either side of that one are looked at first, so that two
-// clauses with one order, or one turned round, take a step for each literal.
+// .. `next` is the place behind the literal that was found last. Those on either side of that one are looked at first, so that two clauses with
+// one order, or one turned round, take a step for each literal.
 fn place_near(codes: &[u32], b: usize, next: usize, x: u32) -> usize
     requires { ⌜ (b ≤ next) × (next ≤ b + length (clauseAt (now codes) b)) ⌝ }
     requires { ⌜ 1 ≤ x ⌝ }

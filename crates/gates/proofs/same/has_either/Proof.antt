@@ -38,7 +38,7 @@ loop-less c = search needs
 loop-again : tie.Need-loop-again Inv-loop μ-loop
 loop-again c = (
   omega (arith, c .before .before .before .loop-test .taken),
-  λ e. ⊎-elim (λ t. absurd (true≢false (sym (t .1) ∙ e))) (λ t. goes-past (c .before .before .before .before .loop .inv .1 (sym (t .1) ∙ e)) (sym (c .before .is-either .ensures) ∙ t .0 .left)) (c .if1 .came),
+  λ e. ⊎-elim (λ t. absurd (true≢false (sym (t .1) ∙ e))) (λ t. goes-past _ _ _ (sym (c .before .is-either .ensures) ∙ t .0 .left) _ (c .before .before .before .before .loop .inv .1 (sym (t .1) ∙ e))) (c .if1 .came),
 )
 
 returns : tie.Need-returns Inv-loop μ-loop

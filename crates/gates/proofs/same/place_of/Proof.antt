@@ -1,15 +1,16 @@
 -- `gates::same::place_of` meets its contract.
 -- Assumes nothing.
 use mathlib.Core.Path.{_≡_, sym, _∙_}
-use mathlib.Core.Logic.{_≢_}
+use mathlib.Core.Bool.{false, _||_}
 use Prim.Native.Nat.{_-_, _<_}
 use native.Mathlib.Omega.{arith}
+use lib.Dec.{eqb}
 use lib.ListN.{length, getD}
 use denote.Ref.{now}
+use borrow.Author.Tests.{not-true, not-false}
 use borrow.Author.Needs.{needs}
 use Rattle.gates.specs.Search.{GoesOn}
-use Rattle.gates.proofs.Rows.{literal-within}
-use Rattle.gates.proofs.LiteralPlaces.{place-stop, place-here, place-on}
+use Rattle.gates.proofs.LiteralPlaces.{goes-past, comes-to, past-inside}
 use Rattle.gates.proofs.same.place_of.Statement.{statement}
 use Rattle.gates.proofs.same.place_of.Tie as tie
 
@@ -19,12 +20,13 @@ Inv-loop codes b x i₀ i = GoesOn codes x b i
 abbrev μ-loop : tie.MeasureT-loop
 μ-loop codes b x i₀ i = length codes - i
 
--- at a literal
-some : (c : tie.Else1 Inv-loop μ-loop) → getD (now (c .before .before .before .before .before .args .codes)) (c .before .before .loop .i) 0 ≢ 0
-some c e = c .if1 .left (c .before .literal .ensures ∙ e)
+-- at an entry that is neither
+neither : (c : tie.Then1 Inv-loop μ-loop)
+    → (eqb (getD (now (c .before .before .before .before .before .before .args .codes)) (c .before .before .before .loop .i) 0) 0 || eqb (getD (now (c .before .before .before .before .before .before .args .codes)) (c .before .before .before .loop .i) 0) (c .before .before .before .before .before .before .args .x)) ≡ false
+neither c = rw (c .before .before .literal .ensures) at (sym (c .before .is-either .ensures) ∙ not-true _ (c .if1 .taken))
 
-inside : (c : tie.Else1 Inv-loop μ-loop) → c .before .before .loop .i < length (now (c .before .before .before .before .before .args .codes))
-inside c = literal-within (now (c .before .before .before .before .before .args .codes)) (c .before .before .loop .i) (some c)
+inside : (c : tie.Then1 Inv-loop μ-loop) → c .before .before .before .loop .i < length (now (c .before .before .before .before .before .before .args .codes))
+inside c = past-inside (now (c .before .before .before .before .before .before .args .codes)) (c .before .before .before .before .before .before .args .x) (c .before .before .before .loop .i) (neither c)
 
 skip-blocks-requires : tie.Need-skip-blocks-requires Inv-loop μ-loop
 skip-blocks-requires c κs = search needs
@@ -35,20 +37,20 @@ loop-holds c = c .skip-blocks .ensures
 literal-requires : tie.Need-literal-requires Inv-loop μ-loop
 literal-requires c κs = search needs
 
-returns : tie.Need-returns Inv-loop μ-loop
-returns c = c .before .before .loop .inv _ (place-stop _ _ _ (sym (c .before .literal .ensures) ∙ c .if1 .taken))
-
-returns-2 : tie.Need-returns-2 Inv-loop μ-loop
-returns-2 c = c .before .before .before .loop .inv _ (place-here _ _ _ (some (c .before)) (sym (c .before .before .literal .ensures) ∙ c .if2 .taken))
+is-either-requires : tie.Need-is-either-requires Inv-loop μ-loop
+is-either-requires c κs = search needs
 
 add-i : tie.Need-add-i Inv-loop μ-loop
-add-i c = omega (arith, inside (c .before), c .before .before .before .before .before .before .good)
+add-i c = omega (arith, inside c, c .before .before .before .before .before .before .good)
 
 loop-less : tie.Need-loop-less Inv-loop μ-loop
-loop-less c = omega (arith, inside (c .before))
+loop-less c = omega (arith, inside c)
 
 loop-again : tie.Need-loop-again Inv-loop μ-loop
-loop-again c p f = c .before .before .before .loop .inv p (place-on _ _ _ (some (c .before)) (λ e. c .if2 .left (c .before .before .literal .ensures ∙ e)) p f)
+loop-again c = goes-past _ _ _ (neither c) _ (c .before .before .before .loop .inv)
+
+returns : tie.Need-returns Inv-loop μ-loop
+returns c = comes-to _ _ _ (rw (c .before .before .literal .ensures) at (sym (c .before .is-either .ensures) ∙ not-false _ (c .if1 .left))) _ (c .before .before .before .loop .inv)
 
 pub place-of-spec : {M : Type 1} → statement M
 place-of-spec =
@@ -59,8 +61,8 @@ place-of-spec =
     skip-blocks-requires
     loop-holds
     literal-requires
-    returns
-    returns-2
+    is-either-requires
     add-i
     loop-less
-    loop-again)
+    loop-again
+    returns)
