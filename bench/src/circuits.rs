@@ -5,7 +5,8 @@
 mod beyond;
 mod process;
 
-use beyond::{beyond, once};
+use beyond::{arguments, beyond, once, Inputs};
+use process::median;
 use std::path::Path;
 
 /// The bytes that a text may have.
@@ -15,31 +16,19 @@ const LARGEST: usize = 999_999_999;
 const STEP: usize = 65_536;
 
 fn main() {
-    let arguments: Vec<String> = std::env::args().skip(1).collect();
-    let [program, runs] = &arguments[..] else { panic!("circuits PROGRAM RUNS") };
-    let (program, runs) = (Path::new(program), runs.parse().expect("a number of runs"));
-    let folder = std::env::temp_dir().join(format!("circuits.{}", std::process::id()));
-    std::fs::create_dir(&folder).expect("a folder for the texts");
-    let write = |(title, text): (&'static str, String)| {
-        let path = folder.join(title.replace(' ', "-"));
-        assert!(text.len() <= MOST, "{title} has {} bytes", text.len());
-        std::fs::write(&path, &text).expect("the folder can be written");
-        (title, text.len(), path)
-    };
-    let empty = write(("empty", circuit(0, &[], 1, &[]))).2;
-    let entries: Vec<_> = texts().into_iter().map(write).collect();
-    println!(
-        "An empty circuit takes {:.2} ms from the start of the process to its end.\n",
-        process::median(&mut (0..runs).map(|_| once(program, &empty).milliseconds).collect::<Vec<_>>())
-    );
+    let (program, runs) = arguments("circuits");
+    let inputs = Inputs::new("circuits");
+    let empty = inputs.write("empty", &circuit(0, &[], 1, &[]));
+    let start = median(&mut (0..runs).map(|_| once(&program, &empty).milliseconds).collect::<Vec<_>>());
+    println!("An empty circuit takes {start:.2} ms from the start of the process to its end.\n");
     println!("| text | bytes | answer | product, ms | beside the first |\n|---|--:|---|--:|--:|");
     let mut first = None;
-    for (title, bytes, path) in &entries {
-        let (work, answer) = measure(program, path, &empty, runs);
+    for (title, text) in texts() {
+        assert!(text.len() <= MOST, "{title} has {} bytes", text.len());
+        let (work, answer) = measure(&program, &inputs.write(title, &text), &empty, runs);
         let beside = work / *first.get_or_insert(work);
-        println!("| {title} | {bytes} | {answer} | {work:.2} | {beside:.1} |");
+        println!("| {title} | {} | {answer} | {work:.2} | {beside:.1} |", text.len());
     }
-    std::fs::remove_dir_all(&folder).expect("the folder can be removed");
 }
 
 /// The work beyond an empty run, and the second line that is printed.

@@ -5,8 +5,7 @@
 mod beyond;
 mod process;
 
-use beyond::{beyond, once};
-use std::path::Path;
+use beyond::{arguments, beyond, once, Inputs};
 
 /// An order, its byte, how many comparisons a run makes, and whether the two are equal.
 const ORDERS: [(&str, char, usize, bool); 4] = [
@@ -17,26 +16,16 @@ const ORDERS: [(&str, char, usize, bool); 4] = [
 ];
 
 fn main() {
-    let arguments: Vec<String> = std::env::args().skip(1).collect();
-    let [program, runs] = &arguments[..] else { panic!("clauses PROGRAM RUNS") };
-    let (program, runs) = (Path::new(program), runs.parse().expect("a number of runs"));
-    let folder = std::env::temp_dir().join(format!("clauses.{}", std::process::id()));
-    std::fs::create_dir(&folder).expect("a folder for the inputs");
-    let write = |name: &str, input: String| {
-        let path = folder.join(name.replace(' ', "-"));
-        std::fs::write(&path, input).expect("the folder can be written");
-        path
-    };
-    let empty = write("empty", String::new());
+    let (program, runs) = arguments("clauses");
+    let inputs = Inputs::new("clauses");
+    let empty = inputs.write("empty", "");
     println!("| second clause | ms | beside the first |\n|---|--:|--:|");
     let mut first = None;
     for (title, byte, times, equal) in ORDERS {
-        let input = write(title, byte.to_string().repeat(times));
+        let input = inputs.write(title, &byte.to_string().repeat(times));
         let signs = if equal { "=" } else { "/" }.repeat(times);
-        let printed = once(program, &input).printed;
-        assert!(printed.ends_with(&format!(" {signs}\n")), "{title}: a wrong answer");
-        let each = beyond(program, &input, &empty, runs) / times as f64;
+        assert!(once(&program, &input).printed.ends_with(&format!(" {signs}\n")), "{title}: a wrong answer");
+        let each = beyond(&program, &input, &empty, runs) / times as f64;
         println!("| {title} | {each:.3} | {:.1} |", each / *first.get_or_insert(each));
     }
-    std::fs::remove_dir_all(&folder).expect("the folder can be removed");
 }

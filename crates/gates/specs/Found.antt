@@ -15,7 +15,7 @@ use Rattle.gates.specs.Gate.{AndGate, XorGate, IteGate}
 
 -- The row of codes: clauses one after another, each ended by 0
 
--- the clause that starts at place b
+-- the clause that starts at place b: the entries from there to the next 0, or to the row's end; none if b is past that
 unfoldable pub clauseAt : List ℕ → ℕ → List ℕ
 clauseAt row b = front (λ x. not (eqb x 0)) (drop b row)
 

@@ -29,6 +29,8 @@ Proper row = (c : List ℕ) → List·Memᴰ c (clausesIn row) → ¬ Tautology 
 abbrev pub Once : List ℕ → Type 0
 Once q = literals q ≡ q
 
+-- Where a clause holds a literal; inner contracts alone cite this
+
 -- p is a place of x in the clause that starts at b, or the clause's end if x is none of its literals
 pub record PlaceOf (row : List ℕ) (b x p : ℕ) : Type 0 where
   pub low : b ≤ p

@@ -1,11 +1,10 @@
 -- `gates::first::is_first` meets its contract.
 -- Assumes nothing.
-use mathlib.Core.Path.{_≡_, sym, _∙_}
+use mathlib.Core.Path.{sym, _∙_}
 use Prim.Native.Nat.{_+_, _-_, _<_}
 use native.Mathlib.Omega.{arith}
 use lib.ListN.{length}
 use denote.Ref.{now}
-use borrow.Author.Tests.{not-false}
 use Rattle.gates.specs.Found.{clauseAt, Starts}
 use Rattle.gates.specs.Index.{buckets}
 use Rattle.gates.proofs.Buckets.{bucket-small}
