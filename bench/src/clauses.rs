@@ -11,7 +11,7 @@ use beyond::{arguments, beyond, once, Inputs};
 const ORDERS: [(&str, char, usize, bool); 4] = [
     ("the same order", 'o', 2_000, true),
     ("turned round", 't', 2_000, true),
-    ("turned round, the last literal another one", 'b', 2_000, false),
+    ("turned round but for one literal", 'b', 2_000, false),
     ("mixed up", 'm', 4, true),
 ];
 

@@ -173,8 +173,8 @@ fn one_wide(n: usize) -> List {
     List { nets, clauses: (0..n).map(|_| drawn(nets, 1..=nets as i32, &mut random)).collect() }
 }
 
-/// n clauses over all of 999 nets, in each of which two of the first 2n are inverse, as far from the first of them as from the last: so the
-/// product's index has all clauses in one bucket. The other nets come first, mixed up, and the two come last.
+/// n clauses over all of 999 nets, in each of which two of the first 2n are inverse, one as far from the first of these as the other
+/// from the last: so the product's index has all clauses in one bucket. The other nets come first, mixed up, and the two come last.
 fn one_bucket(n: usize) -> List {
     let mut random = Random(4);
     let (nets, ends) = (999, 2 * n as i32);

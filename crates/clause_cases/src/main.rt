@@ -1,5 +1,5 @@
 // Compares clauses of rows of codes where they stand, one line for each pair: its name, and whether the two are equal as sets. Then it compares
-// a clause of 8,000 literals with others, once for each byte of standard input, and prints `=` or `/` for each.
+// a clause of 8,000 literals with others, once for each byte of standard input, of which it reads 4,096, and prints `=` or `/` for each.
 
 use gates::same::is_same_set;
 use libc::STDIN_FILENO;
@@ -111,7 +111,7 @@ const WIDTH: usize = 8000;
 
 const ENTRIES: usize = WIDTH + 1;
 
-// Where the wide clauses start that the first one is compared with.
+// Where the clauses start that the first one is compared with. The empty one stands right before one that has all its literals.
 const SAME_ORDER: usize = ENTRIES;
 
 const EMPTY: usize = TURNED_ROUND - 1;
@@ -168,7 +168,7 @@ fn wide_cases(orders: &[u8]) {
     put_clause(&mut row, SAME_ORDER, 0, 1);
     put_clause(&mut row, TURNED_ROUND, WIDTH - 1, WIDTH - 1);
     put_clause(&mut row, TURNED_ROUND_BUT_ONE, WIDTH - 1, WIDTH - 1);
-    row[MIXED - 2] = 1;
+    row[TURNED_ROUND_BUT_ONE] = 1;
     put_clause(&mut row, MIXED, 0, 4999);
     show(b"clauses of 8,000 literals: ");
     compare_wide(&row, orders);

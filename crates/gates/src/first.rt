@@ -13,8 +13,8 @@ use crate::index::bucket_at;
 use crate::place::clause_end;
 use crate::same::is_same_set;
 
-// Whether the clause from b to end and that at a are equal as sets. They are compared only if one has as many literals as the other.
-fn is_equal(codes: &[u32], b: usize, end: usize, a: usize) -> bool
+// Whether the clause at a is a copy of the one from b to end: they are equal as sets. If one has more literals they are not compared.
+fn is_copy(codes: &[u32], b: usize, end: usize, a: usize) -> bool
     requires { ⌜ Normal (now codes) ⌝ }
     requires { ⌜ Spans (now codes) b end × Starts (now codes) b × Starts (now codes) a ⌝ }
     ensures { λ r. ⌜ r ≡ sameSet (clauseAt (now (codes .entry)) b) (clauseAt (now (codes .entry)) a) ⌝ }
@@ -34,7 +34,7 @@ fn is_first(codes: &[u32], index: &[u32], b: usize, end: usize) -> bool
 {
     let mut a = index[bucket_at(codes, b)] as usize;
     while a < b {
-        if is_equal(codes, b, end, a) {
+        if is_copy(codes, b, end, a) {
             return false;
         }
         a = index[BUCKETS + a] as usize;

@@ -1,7 +1,7 @@
 // The clause index of a row of codes.
 
 use crate::fill::fill;
-use crate::literal::turned;
+use crate::literal::flipped;
 use crate::place::literal;
 ghost use mathlib.Core.Path.{_≡_};
 ghost use Prim.Native.Nat.{_+_, _%_, _<_, _≤_};
@@ -40,7 +40,7 @@ pub fn bucket_of(q: &[u32], mask: u32) -> usize
     let mut s = 0;
     let mut i = 0;
     while i < q.len() {
-        s = add_share(s, turned(q[i], m));
+        s = add_share(s, flipped(q[i], m));
         m = m / 2;
         i += 1;
     }

@@ -12,7 +12,7 @@ pub fn inverse(x: u32) -> u32
 }
 
 // The literal, inverted if the mask's lowest bit is set.
-pub fn turned(x: u32, mask: u32) -> u32
+pub fn flipped(x: u32, mask: u32) -> u32
     ensures { λ r. ⌜ r ≡ flip (isInverse mask) x ⌝ }
 {
     x ^ (mask % 2)

@@ -13,8 +13,8 @@ use crate::place::literal;
 // Entries of a block.
 const BLOCK: usize = 32;
 
-// Whether an entry is x or ends a clause.
-fn is_either(y: u32, x: u32) -> bool
+// Whether a search for x stops at an entry: it is x or ends the clause.
+fn is_stop(y: u32, x: u32) -> bool
     ensures { λ r. ⌜ r ≡ (eqb y 0 || eqb y x) ⌝ }
 {
     if y == 0 {
@@ -23,15 +23,15 @@ fn is_either(y: u32, x: u32) -> bool
     y == x
 }
 
-// Whether there is such an entry from b to end. The loop is not left early, so that the compiler takes several entries at a time.
-fn has_either(codes: &[u32], b: usize, end: usize, x: u32) -> bool
+// False only if it goes past all entries from b to end. The loop is not left early, so that the compiler takes several entries at a time.
+fn has_stop(codes: &[u32], b: usize, end: usize, x: u32) -> bool
     requires { ⌜ (b ≤ end) × (end ≤ length (now codes)) ⌝ }
     ensures { λ r. ⌜ (r ≡ false → GoesOn (now (codes .entry)) x b end) ⌝ }
 {
     let mut found = false;
     let mut i = b;
     while i < end {
-        if is_either(codes[i], x) {
+        if is_stop(codes[i], x) {
             found = true;
         }
         i += 1;
@@ -39,7 +39,7 @@ fn has_either(codes: &[u32], b: usize, end: usize, x: u32) -> bool
     found
 }
 
-// A place from b on with no such entry before it: blocks without one are left behind.
+// A place from b on before which it does not stop: blocks without a stop are left behind.
 fn skip_blocks(codes: &[u32], b: usize, x: u32) -> usize
     ensures { λ r. ⌜ GoesOn (now (codes .entry)) x b r ⌝ }
 {
@@ -49,7 +49,7 @@ fn skip_blocks(codes: &[u32], b: usize, x: u32) -> usize
         if n - i < BLOCK {
             return i;
         }
-        if has_either(codes, i, i + BLOCK, x) {
+        if has_stop(codes, i, i + BLOCK, x) {
             return i;
         }
         i += BLOCK;
@@ -62,7 +62,7 @@ fn place_of(codes: &[u32], b: usize, x: u32) -> usize
     ensures { λ r. ⌜ PlaceOf (now (codes .entry)) b x r ⌝ }
 {
     let mut i = skip_blocks(codes, b, x);
-    while !is_either(literal(codes, i), x) {
+    while !is_stop(literal(codes, i), x) {
         i += 1;
     }
     i

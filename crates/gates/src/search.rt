@@ -2,7 +2,7 @@
 
 use crate::index::BUCKETS;
 use crate::index::bucket_of;
-use crate::literal::turned;
+use crate::literal::flipped;
 use crate::place::literal;
 ghost use mathlib.Core.Path.{_≡_};
 ghost use Rattle.clauses.specs.Clause.{clausesIn};
@@ -20,7 +20,7 @@ pub enum Place {
 }
 
 // Whether the clause at b holds x.
-pub fn holds(codes: &[u32], b: usize, x: u32) -> bool
+fn holds(codes: &[u32], b: usize, x: u32) -> bool
     ensures { λ r. ⌜ r ≡ mem x (clauseAt (now (codes .entry)) b) ⌝ }
 {
     let mut i = b;
@@ -55,7 +55,7 @@ fn find(codes: &[u32], index: &[u32], q: &[u32], mask: u32) -> Place
         let mut m = mask;
         let mut i = 0;
         'literals: while i < q.len() {
-            if !holds(codes, here, turned(q[i], m)) {
+            if !holds(codes, here, flipped(q[i], m)) {
                 continue 'clauses;
             }
             m = m / 2;

@@ -44,13 +44,13 @@ cast-a c = omega (arith, c .shared-slice-known3 .given (c .before .bucket-at .re
 loop-holds : tie.Need-loop-holds Inv-loop μ-loop
 loop-holds c = searching-first (c .before .before .before .before .pre .0) (c .before .bucket-at .ensures)
 
-is-equal-requires : tie.Need-is-equal-requires Inv-loop μ-loop
-is-equal-requires c κs =
+is-copy-requires : tie.Need-is-copy-requires Inv-loop μ-loop
+is-copy-requires c κs =
     let from = c .before .before .before .before .before .before in
     (from .pre .1 .0, (from .pre .1 .1 .0, from .pre .1 .1 .1, start c))
 
 returns : tie.Need-returns Inv-loop μ-loop
-returns c = sym (later-copy _ _ _ (start (c .before .before)) (c .before .before .loop-test .taken) (sym (c .before .is-equal .ensures) ∙ c .if1 .taken))
+returns c = sym (later-copy _ _ _ (start (c .before .before)) (c .before .before .loop-test .taken) (sym (c .before .is-copy .ensures) ∙ c .if1 .taken))
 
 add-a : tie.Need-add-a Inv-loop μ-loop
 add-a c = omega (arith, inside (c .before .before), c .before .before .before .before .before .before .before .before .pre .0 .room)
@@ -70,7 +70,7 @@ loop-less c = searching-falls (c .before .before .before .before .before .before
 loop-again : tie.Need-loop-again Inv-loop μ-loop
 loop-again c =
     searching-next (c .before .before .before .before .before .before .before .before .before .pre .0) (c .before .before .before .before .loop .inv) (inside (c .before .before .before))
-    (sym (c .before .before .is-equal .ensures) ∙ c .before .if1 .left)
+    (sym (c .before .before .is-copy .ensures) ∙ c .before .if1 .left)
 
 returns-2 : tie.Need-returns-2 Inv-loop μ-loop
 returns-2 c =
@@ -88,7 +88,7 @@ is-first-spec =
     shared-slice-read-a
     cast-a
     loop-holds
-    is-equal-requires
+    is-copy-requires
     returns
     add-a
     mul-a-2

@@ -22,14 +22,14 @@ abbrev μ-loop : tie.MeasureT-loop
 loop-holds : tie.Need-loop-holds Inv-loop μ-loop
 loop-holds c = (omega arith, omega arith)
 
-mul-turned : tie.Need-mul-turned Inv-loop μ-loop
-mul-turned c = search needs
+mul-flipped : tie.Need-mul-flipped Inv-loop μ-loop
+mul-flipped c = search needs
 
-shared-slice-read-turned : tie.Need-shared-slice-read-turned Inv-loop μ-loop
-shared-slice-read-turned c = search needs
+shared-slice-read-flipped : tie.Need-shared-slice-read-flipped Inv-loop μ-loop
+shared-slice-read-flipped c = search needs
 
-turned-requires : tie.Need-turned-requires Inv-loop μ-loop
-turned-requires c κs = search needs
+flipped-requires : tie.Need-flipped-requires Inv-loop μ-loop
+flipped-requires c κs = search needs
 
 add-share-requires : tie.Need-add-share-requires Inv-loop μ-loop
 add-share-requires c κs = c .before .before .before .loop .inv .0
@@ -43,7 +43,7 @@ loop-less c = search needs
 loop-again : tie.Need-loop-again Inv-loop μ-loop
 loop-again c =
     let e = rest-on (now (c .before .before .before .before .before .before .args .q)) (c .before .before .before .before .loop .i) (c .before .before .before .before .loop .m) (c .before .before .before .loop-test .taken) in
-    omega (arith, e, rw (c .before .turned .ensures) at (c .add-share .ensures), c .before .before .before .before .loop .inv .0, c .before .before .before .before .loop .inv .1)
+    omega (arith, e, rw (c .before .flipped .ensures) at (c .add-share .ensures), c .before .before .before .before .loop .inv .0, c .before .before .before .before .loop .inv .1)
 
 returns : tie.Need-returns Inv-loop μ-loop
 returns c =
@@ -57,9 +57,9 @@ bucket-of-spec =
     Inv-loop
     μ-loop
     loop-holds
-    mul-turned
-    shared-slice-read-turned
-    turned-requires
+    mul-flipped
+    shared-slice-read-flipped
+    flipped-requires
     add-share-requires
     add-i
     loop-less

@@ -20,13 +20,13 @@ Inv-loop codes b x i₀ i = GoesOn codes x b i
 abbrev μ-loop : tie.MeasureT-loop
 μ-loop codes b x i₀ i = length codes - i
 
--- at an entry that is neither
-neither : (c : tie.Then1 Inv-loop μ-loop)
+-- at an entry where the search does not stop
+no-stop : (c : tie.Then1 Inv-loop μ-loop)
     → (eqb (getD (now (c .before .before .before .before .before .before .args .codes)) (c .before .before .before .loop .i) 0) 0 || eqb (getD (now (c .before .before .before .before .before .before .args .codes)) (c .before .before .before .loop .i) 0) (c .before .before .before .before .before .before .args .x)) ≡ false
-neither c = rw (c .before .before .literal .ensures) at (sym (c .before .is-either .ensures) ∙ not-true _ (c .if1 .taken))
+no-stop c = rw (c .before .before .literal .ensures) at (sym (c .before .is-stop .ensures) ∙ not-true _ (c .if1 .taken))
 
 inside : (c : tie.Then1 Inv-loop μ-loop) → c .before .before .before .loop .i < length (now (c .before .before .before .before .before .before .args .codes))
-inside c = past-inside (now (c .before .before .before .before .before .before .args .codes)) (c .before .before .before .before .before .before .args .x) (c .before .before .before .loop .i) (neither c)
+inside c = past-inside (now (c .before .before .before .before .before .before .args .codes)) (c .before .before .before .before .before .before .args .x) (c .before .before .before .loop .i) (no-stop c)
 
 skip-blocks-requires : tie.Need-skip-blocks-requires Inv-loop μ-loop
 skip-blocks-requires c κs = search needs
@@ -37,8 +37,8 @@ loop-holds c = c .skip-blocks .ensures
 literal-requires : tie.Need-literal-requires Inv-loop μ-loop
 literal-requires c κs = search needs
 
-is-either-requires : tie.Need-is-either-requires Inv-loop μ-loop
-is-either-requires c κs = search needs
+is-stop-requires : tie.Need-is-stop-requires Inv-loop μ-loop
+is-stop-requires c κs = search needs
 
 add-i : tie.Need-add-i Inv-loop μ-loop
 add-i c = omega (arith, inside c, c .before .before .before .before .before .before .good)
@@ -47,10 +47,10 @@ loop-less : tie.Need-loop-less Inv-loop μ-loop
 loop-less c = omega (arith, inside c)
 
 loop-again : tie.Need-loop-again Inv-loop μ-loop
-loop-again c = goes-past _ _ _ (neither c) _ (c .before .before .before .loop .inv)
+loop-again c = goes-past _ _ _ (no-stop c) _ (c .before .before .before .loop .inv)
 
 returns : tie.Need-returns Inv-loop μ-loop
-returns c = comes-to _ _ _ (rw (c .before .before .literal .ensures) at (sym (c .before .is-either .ensures) ∙ not-false _ (c .if1 .left))) _ (c .before .before .before .loop .inv)
+returns c = comes-to _ _ _ (rw (c .before .before .literal .ensures) at (sym (c .before .is-stop .ensures) ∙ not-false _ (c .if1 .left))) _ (c .before .before .before .loop .inv)
 
 pub place-of-spec : {M : Type 1} → statement M
 place-of-spec =
@@ -61,7 +61,7 @@ place-of-spec =
     skip-blocks-requires
     loop-holds
     literal-requires
-    is-either-requires
+    is-stop-requires
     add-i
     loop-less
     loop-again

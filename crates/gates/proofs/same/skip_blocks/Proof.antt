@@ -23,11 +23,11 @@ sub-if1 c = search needs
 returns : tie.Need-returns Inv-loop μ-loop
 returns c = c .before .before .loop .inv
 
-add-has-either : tie.Need-add-has-either Inv-loop μ-loop
-add-has-either c = search needs
+add-has-stop : tie.Need-add-has-stop Inv-loop μ-loop
+add-has-stop c = search needs
 
-has-either-requires : tie.Need-has-either-requires Inv-loop μ-loop
-has-either-requires c κs = (omega arith, omega (arith, c .if1 .left, c .before .loop-test .taken))
+has-stop-requires : tie.Need-has-stop-requires Inv-loop μ-loop
+has-stop-requires c κs = (omega arith, omega (arith, c .if1 .left, c .before .loop-test .taken))
 
 returns-2 : tie.Need-returns-2 Inv-loop μ-loop
 returns-2 c = c .before .before .before .before .loop .inv
@@ -39,7 +39,7 @@ loop-less : tie.Need-loop-less Inv-loop μ-loop
 loop-less c = search needs
 
 loop-again : tie.Need-loop-again Inv-loop μ-loop
-loop-again c p f = c .before .before .before .before .loop .inv p (c .before .has-either .ensures (c .if2 .left) p f)
+loop-again c p f = c .before .before .before .before .loop .inv p (c .before .has-stop .ensures (c .if2 .left) p f)
 
 returns-3 : tie.Need-returns-3 Inv-loop μ-loop
 returns-3 c = c .before .loop .inv
@@ -53,8 +53,8 @@ skip-blocks-spec =
     loop-holds
     sub-if1
     returns
-    add-has-either
-    has-either-requires
+    add-has-stop
+    has-stop-requires
     returns-2
     add-i
     loop-less

@@ -107,15 +107,15 @@ clauses-again c =
 literals-holds : tie.Need-literals-holds Inv-literals μ-literals Inv-clauses μ-clauses
 literals-holds c = refl
 
-mul-turned : tie.Need-mul-turned Inv-literals μ-literals Inv-clauses μ-clauses
-mul-turned c = search needs
+mul-flipped : tie.Need-mul-flipped Inv-literals μ-literals Inv-clauses μ-clauses
+mul-flipped c = search needs
 
-shared-slice-read-turned :
-    tie.Need-shared-slice-read-turned Inv-literals μ-literals Inv-clauses μ-clauses
-shared-slice-read-turned c = search needs
+shared-slice-read-flipped :
+    tie.Need-shared-slice-read-flipped Inv-literals μ-literals Inv-clauses μ-clauses
+shared-slice-read-flipped c = search needs
 
-turned-requires : tie.Need-turned-requires Inv-literals μ-literals Inv-clauses μ-clauses
-turned-requires c κs = search needs
+flipped-requires : tie.Need-flipped-requires Inv-literals μ-literals Inv-clauses μ-clauses
+flipped-requires c κs = search needs
 
 holds-requires : tie.Need-holds-requires Inv-literals μ-literals Inv-clauses μ-clauses
 holds-requires c κs = search needs
@@ -128,7 +128,7 @@ clauses-again-2 c =
     let step = c .before .before .before .before .before .literals in
     goes-on (c .before .before .before .before .before .before .before .before .before)
     (same-no _ _
-    (step .inv ∙ all-no (now (c .before .before .before .before .before .before .before .before .before .before .before .before .before .before .before .before .args .q)) (step .i) (step .m) _ (c .before .before .before .before .literals-test .taken) (rw (c .before .before .turned .ensures) at (sym (c .before .holds .ensures) ∙ not-true _ (c .if3 .taken)))))
+    (step .inv ∙ all-no (now (c .before .before .before .before .before .before .before .before .before .before .before .before .before .before .before .before .args .q)) (step .i) (step .m) _ (c .before .before .before .before .literals-test .taken) (rw (c .before .before .flipped .ensures) at (sym (c .before .holds .ensures) ∙ not-true _ (c .if3 .taken)))))
 
 add-i : tie.Need-add-i Inv-literals μ-literals Inv-clauses μ-clauses
 add-i c = search needs
@@ -139,7 +139,7 @@ literals-less c = search needs
 literals-again : tie.Need-literals-again Inv-literals μ-literals Inv-clauses μ-clauses
 literals-again c =
     let step = c .before .before .before .before .before .literals in
-    step .inv ∙ all-on (now (c .before .before .before .before .before .before .before .before .before .before .before .before .before .before .before .before .args .q)) (step .i) (step .m) _ (c .before .before .before .before .literals-test .taken) (rw (c .before .before .turned .ensures) at (sym (c .before .holds .ensures) ∙ not-false _ (c .if3 .left)))
+    step .inv ∙ all-on (now (c .before .before .before .before .before .before .before .before .before .before .before .before .before .before .before .before .args .q)) (step .i) (step .m) _ (c .before .before .before .before .literals-test .taken) (rw (c .before .before .flipped .ensures) at (sym (c .before .holds .ensures) ∙ not-false _ (c .if3 .left)))
 
 returns : tie.Need-returns Inv-literals μ-literals Inv-clauses μ-clauses
 returns c = ended-at (ended (c .before)) (c .if4 .taken)
@@ -169,9 +169,9 @@ find-spec =
     clauses-less
     clauses-again
     literals-holds
-    mul-turned
-    shared-slice-read-turned
-    turned-requires
+    mul-flipped
+    shared-slice-read-flipped
+    flipped-requires
     holds-requires
     clauses-less-2
     clauses-again-2

@@ -1,11 +1,11 @@
--- `gates::first::is_equal` meets its contract.
+-- `gates::first::is_copy` meets its contract.
 -- Assumes nothing.
 use mathlib.Core.Path.{sym}
 use native.Mathlib.Omega.{arith}
 use borrow.Author.Needs.{needs}
 use Rattle.gates.proofs.Queries.{clause-once, sizes-apart}
-use Rattle.gates.proofs.first.is_equal.Statement.{statement}
-use Rattle.gates.proofs.first.is_equal.Tie as tie
+use Rattle.gates.proofs.first.is_copy.Statement.{statement}
+use Rattle.gates.proofs.first.is_copy.Tie as tie
 
 clause-end-requires : tie.Need-clause-end-requires
 clause-end-requires c κs = search needs
@@ -27,7 +27,7 @@ is-same-set-requires c κs = search needs
 returns-2 : tie.Need-returns-2
 returns-2 c = search needs
 
-pub is-equal-spec : {M : Type 1} → statement M
-is-equal-spec =
+pub is-copy-spec : {M : Type 1} → statement M
+is-copy-spec =
     tie.close
     (tie.spec clause-end-requires sub-if1 sub-if1-2 returns is-same-set-requires returns-2)

@@ -1,4 +1,4 @@
--- `gates::same::has_either` meets its contract.
+-- `gates::same::has_stop` meets its contract.
 -- Assumes nothing.
 use mathlib.Core.Path.{_≡_, sym, _∙_}
 use mathlib.Core.Logic.{⊎-elim}
@@ -8,8 +8,8 @@ use native.Mathlib.Omega.{arith}
 use borrow.Author.Needs.{needs}
 use Rattle.gates.specs.Search.{GoesOn}
 use Rattle.gates.proofs.LiteralPlaces.{goes-past}
-use Rattle.gates.proofs.same.has_either.Statement.{statement}
-use Rattle.gates.proofs.same.has_either.Tie as tie
+use Rattle.gates.proofs.same.has_stop.Statement.{statement}
+use Rattle.gates.proofs.same.has_stop.Tie as tie
 
 abbrev Inv-loop : tie.InvT-loop
 Inv-loop codes b end x found₀ i₀ found i = (i ≤ end) × (found ≡ false → GoesOn codes x b i)
@@ -20,14 +20,14 @@ abbrev μ-loop : tie.MeasureT-loop
 loop-holds : tie.Need-loop-holds Inv-loop μ-loop
 loop-holds c = (c .before .pre .0, λ e p f. f)
 
-mul-is-either : tie.Need-mul-is-either Inv-loop μ-loop
-mul-is-either c = search needs
+mul-is-stop : tie.Need-mul-is-stop Inv-loop μ-loop
+mul-is-stop c = search needs
 
-shared-slice-read-is-either : tie.Need-shared-slice-read-is-either Inv-loop μ-loop
-shared-slice-read-is-either c = search needs
+shared-slice-read-is-stop : tie.Need-shared-slice-read-is-stop Inv-loop μ-loop
+shared-slice-read-is-stop c = search needs
 
-is-either-requires : tie.Need-is-either-requires Inv-loop μ-loop
-is-either-requires c κs = search needs
+is-stop-requires : tie.Need-is-stop-requires Inv-loop μ-loop
+is-stop-requires c κs = search needs
 
 add-i : tie.Need-add-i Inv-loop μ-loop
 add-i c = search needs
@@ -38,22 +38,22 @@ loop-less c = search needs
 loop-again : tie.Need-loop-again Inv-loop μ-loop
 loop-again c = (
   omega (arith, c .before .before .before .loop-test .taken),
-  λ e. ⊎-elim (λ t. absurd (true≢false (sym (t .1) ∙ e))) (λ t. goes-past _ _ _ (sym (c .before .is-either .ensures) ∙ t .0 .left) _ (c .before .before .before .before .loop .inv .1 (sym (t .1) ∙ e))) (c .if1 .came),
+  λ e. ⊎-elim (λ t. absurd (true≢false (sym (t .1) ∙ e))) (λ t. goes-past _ _ _ (sym (c .before .is-stop .ensures) ∙ t .0 .left) _ (c .before .before .before .before .loop .inv .1 (sym (t .1) ∙ e))) (c .if1 .came),
 )
 
 returns : tie.Need-returns Inv-loop μ-loop
 returns c = let e : c .before .loop .i ≡ c .before .before .before .args .end = omega (arith, c .loop-test .left, c .before .loop .inv .0) in rw e at (c .before .loop .inv .1)
 
-pub has-either-spec : {M : Type 1} → statement M
-has-either-spec =
+pub has-stop-spec : {M : Type 1} → statement M
+has-stop-spec =
     tie.close
     (tie.spec
     Inv-loop
     μ-loop
     loop-holds
-    mul-is-either
-    shared-slice-read-is-either
-    is-either-requires
+    mul-is-stop
+    shared-slice-read-is-stop
+    is-stop-requires
     add-i
     loop-less
     loop-again
