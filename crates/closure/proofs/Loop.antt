@@ -1,6 +1,6 @@
 -- The loop over the rounds: what holds between two of them, and how a round leads on.
 -- Assumes nothing.
-use mathlib.Core.Path.{_≡_, refl, sym, _∙_, ap, subst, subst⁻¹, subst₂}
+use mathlib.Core.Path.{_≡_, refl, sym, _∙_, ap, subst⁻¹, subst₂}
 use mathlib.Core.Logic.{_≢_, inl, inr}
 use mathlib.Core.Bool.{true, false, cond, true≢false}
 use mathlib.Core.List.{List}
@@ -14,13 +14,13 @@ use Rattle.gates.specs.Count.{netsOf}
 use Rattle.gates.specs.Found.{Found}
 use Rattle.rules.specs.Answer.{own, noLead}
 use Rattle.rules.specs.Compute.{ended, closed}
-use Rattle.passes.specs.Making.{Making, Later, fresh, Rules}
-use Rattle.passes.specs.RowJoined.{RowJoined}
-use Rattle.passes.specs.declared.tally.Tally.{Tally}
-use Rattle.passes.proofs.RowsJoined.{row-later}
+use Rattle.closure.specs.Making.{Making, Later, fresh, Rules}
+use Rattle.closure.specs.RowJoined.{RowJoined}
+use Rattle.closure.specs.declared.tally.Tally.{Tally}
+use Rattle.closure.proofs.RowsJoined.{row-later}
 use Rattle.closure.specs.declared.run.Progress.{Progress}
 use Rattle.closure.specs.Rounds.{Starting, Followed}
-use Rattle.closure.proofs.ActiveRounds.{round-rules}
+use Rattle.closure.proofs.RoundStarts.{round-rules}
 use Rattle.closure.proofs.Running.{Reached, none-made, round-starts, none-left, round-settles, round-clashes, round-stops, round-made, still-is, moved-is, moved-joins}
 
 -- the leads after the rounds made so far, or how closing has ended
@@ -129,17 +129,3 @@ module _ {row marks : List ℕ} {limit v : ℕ} {leads next older : List ℕ} {p
       go (Followed.stopped h l e) = omega (arith, few-made)
       go (Followed.clashed h l c e) = omega (arith, few-made)
       go (Followed.made h l c e o) = omega arith
-
--- where more rounds follow, the older leads are those before the round
-pub older-is : {limit : ℕ} {p q : Progress} {t : Tally} {leads next leads′ older′ : List ℕ} → Followed limit p t leads next leads′ older′ q → q .more ≡ true → older′ ≡ leads
-older-is (Followed.settled h e) m = absurd (true≢false (sym m))
-older-is (Followed.stopped h l e) m = absurd (true≢false (sym m))
-older-is (Followed.clashed h l c e) m = absurd (true≢false (sym m))
-older-is (Followed.made h l c e o) m = o
-
--- .. and one more round is made
-pub rounds-are : {limit : ℕ} {p q : Progress} {t : Tally} {leads next leads′ older′ : List ℕ} → Followed limit p t leads next leads′ older′ q → q .more ≡ true → q .rounds ≡ p .rounds + 1
-rounds-are (Followed.settled h e) m = absurd (true≢false (sym m))
-rounds-are (Followed.stopped h l e) m = absurd (true≢false (sym m))
-rounds-are (Followed.clashed h l c e) m = absurd (true≢false (sym m))
-rounds-are (Followed.made h l c e o) m = refl

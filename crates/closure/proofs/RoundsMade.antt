@@ -11,8 +11,8 @@ use Rattle.rules.specs.Rule.{Concludes}
 use Rattle.rules.specs.Grouping.{Next, After}
 use Rattle.rules.specs.Ending.{Still, Clash}
 use Rattle.rules.specs.Answer.{leadOf, own}
-use Rattle.passes.specs.declared.tally.Tally.{Tally}
-use Rattle.passes.specs.Making.{Kernel, Drawn, Making, JoinedBy, Rules}
+use Rattle.closure.specs.declared.tally.Tally.{Tally}
+use Rattle.closure.specs.Making.{Kernel, Drawn, Making, JoinedBy, Rules}
 use Rattle.rules.proofs.Groupings.{after-grows, concludes-more, closure-more}
 use Rattle.rules.proofs.Leads.{Canonical, kernel-closed}
 use Rattle.rules.proofs.Rounds.{Row}

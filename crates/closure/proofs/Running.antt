@@ -17,16 +17,16 @@ use Rattle.clauses.proofs.Lists.{and-both, from-low, from-length}
 use Rattle.clauses.proofs.Distinct.{from-distinct}
 use Rattle.gates.specs.Count.{netsOf}
 use Rattle.rules.specs.declared.Verdict.the-variants.{Contradiction, Settled, Unfinished}
-use Rattle.passes.specs.declared.tally.Tally.{Tally}
+use Rattle.closure.specs.declared.tally.Tally.{Tally}
 use Rattle.rules.specs.Grouping.{Closure, After}
 use Rattle.rules.specs.Ending.{Still}
 use Rattle.rules.specs.Answer.{own, noLead}
 use Rattle.rules.specs.Compute.{ended, closed}
-use Rattle.passes.specs.Making.{Making, fresh, Rules}
+use Rattle.closure.specs.Making.{Making, fresh, Rules}
 use Rattle.rules.proofs.Rounds.{Row}
 use Rattle.rules.proofs.Closing.{up-to, no-clash, settles, clashes, stops, first-lead, first-is, closed-is}
 use Rattle.rules.proofs.Groups.{is-own, own-length, own-none}
-use Rattle.passes.proofs.Making.{within-length}
+use Rattle.closure.proofs.Making.{within-length}
 use Rattle.closure.specs.Rounds.{isStill}
 use Rattle.closure.proofs.RoundsMade.{clash-after, row-after, still-after, moved-after}
 

@@ -4,20 +4,20 @@ use mathlib.Core.Path.{_≡_}
 use mathlib.Core.Logic.{_≢_}
 use mathlib.Core.Bool.{Bool, true, false, not, _&&_}
 use mathlib.Core.List.{List}
-use Prim.Native.Nat.{ℕ, _+_, _%_, _≤_, _<_}
+use Prim.Native.Nat.{ℕ, _+_, _*_, _≤_, _<_}
 use lib.Dec.{eqb}
 use lib.ListN.{length, replicate}
 use Rattle.clauses.specs.Limit.{maxNets, maxEntries}
 use Rattle.clauses.specs.Clause.{clausesIn}
 use Rattle.clauses.specs.Listing.{Fits}
-use Rattle.gates.specs.Normal.{Older}
 use Rattle.gates.specs.Found.{Found}
 use Rattle.rules.specs.Answer.{noLead}
 use Rattle.rules.specs.declared.Verdict.the-variants.{Contradiction, Settled, Unfinished}
-use Rattle.passes.specs.Making.{Making, fresh}
-use Rattle.passes.specs.RowJoined.{RowJoined}
-use Rattle.passes.specs.declared.tally.Tally.{Tally}
+use Rattle.closure.specs.Making.{Making, fresh}
+use Rattle.closure.specs.RowJoined.{RowJoined}
+use Rattle.closure.specs.declared.tally.Tally.{Tally}
 use Rattle.closure.specs.declared.run.Progress.{Progress}
+use Rattle.closure.specs.declared.run.Slots.{Slots}
 
 -- a round from the old leads can be made, after so many others
 pub record Starting (row marks older old new : List ℕ) (rounds groups : ℕ) : Type 0 where
@@ -32,11 +32,11 @@ pub record Starting (row marks older old new : List ℕ) (rounds groups : ℕ) :
   -- the round before, if there was one, has joined all that the older leads draw
   pub before : rounds ≢ 0 → RowJoined row marks older old (fresh 0)
 
--- what the row of the places that are seen holds, after so many rounds: nothing before the first one, and nothing but stamps below that of the next one,
--- unless the stamps begin anew with it
-pub record Stamped (rounds : ℕ) (seen : List ℕ) : Type 0 where
-  pub first : rounds ≡ 0 → Older seen 1
-  pub next : rounds % 255 ≢ 0 → Older seen (rounds % 255 + 1)
+-- the tables have room for the gates of clauses with so many entries
+pub record Room (slots : Slots) (entries : ℕ) : Type 0 where
+  pub ands : slots .ands + entries ≤ maxEntries
+  pub xors : slots .xors + entries ≤ maxEntries
+  pub sides : 2 * slots .sides + 3 * entries ≤ 3 * maxEntries
 
 -- the round has joined nothing
 unfoldable pub isStill : Tally → Bool

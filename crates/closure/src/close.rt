@@ -11,21 +11,18 @@ ghost use Rattle.rules.specs.Answer.{own};
 ghost use Rattle.rules.specs.Compute.{ended, closed};
 ghost use Rattle.closure.specs.Closing.{checkList, closing};
 ghost use Rattle.closure.specs.Passed.{Passed, ClosedTo, closeRounds};
+use crate::lead::first_leads;
 use crate::run::Ended;
 use crate::run::run;
 use clauses::checks::Check;
 use clauses::checks::check_entries;
 use clauses::checks::check_sizes;
-use clauses::limits::CODES;
 use clauses::limits::MAX_ENTRIES;
 use clauses::limits::MAX_NETS;
 use clauses::refusal::Refusal;
 use clauses::tally::tally_row;
 use gates::fill::fill;
 use gates::finder::find_gates;
-use passes::by_lead::enter_all;
-use passes::index::index_row;
-use passes::lead::first_leads;
 use rules::Verdict;
 
 // Entries of a row of leads.
@@ -33,19 +30,6 @@ const NETS: usize = MAX_NETS as usize;
 
 // Entries of the work row (specs/Closing.antt).
 const MAX_WORK: usize = 16384;
-
-// Entries of the rows that rounds work in (passes::specs::Scratch).
-const STARTS: usize = 2 * MAX_ENTRIES;
-
-const PLACES: usize = MAX_NETS as usize + 1;
-
-const LEAD_ENTRIES: usize = MAX_ENTRIES + 1;
-
-const HEADS: usize = 8192;
-
-const LINKS: usize = 3 * MAX_ENTRIES;
-
-const SIDES: usize = 9 * MAX_ENTRIES / 2;
 
 // How closing ends, the numbers of gates, and the groups left.
 pub struct Summary {
@@ -78,51 +62,10 @@ fn close_codes(
     ensures { λ r. ⌜ ended (r .verdict) (r .rounds) (now (leads .exit)) ≡ closed (length (now (leads .entry))) (clausesIn (now (codes .entry))) limit ⌝ }
     ensures { λ r. ⌜ r .groups ≡ length (own (length (now (leads .entry))) (now (leads .exit))) ⌝ }
 {
-    let mut starts = [0u32; STARTS];
-    let mut places = [0u32; PLACES];
-    let mut links = [0u32; MAX_ENTRIES];
-    let mut tops = [0u32; PLACES];
-    let mut entries = [0u32; LEAD_ENTRIES];
-    let mut steps = [0u32; MAX_ENTRIES];
-    let mut touched = [0u8; CODES];
-    let mut sought = [0u8; PLACES];
-    let mut seen = [0u8; MAX_ENTRIES];
-    let mut part = [0u32; MAX_ENTRIES];
-    let mut tags = [0u8; MAX_ENTRIES];
-    let mut keys = [0u64; MAX_ENTRIES];
-    let mut values = [0u32; MAX_ENTRIES];
-    let mut heads = [0u32; HEADS];
-    let mut chain = [0u32; LINKS];
-    let mut sides = [0u32; SIDES];
-    index_row(codes, marks, &mut starts, &mut places, &mut links);
     first_leads(leads);
     first_leads(next);
     first_leads(older);
-    enter_all(codes, &starts, leads, &mut tops, &mut entries, &mut steps);
-    run(
-        codes,
-        marks,
-        &starts,
-        &places,
-        &links,
-        limit,
-        leads,
-        next,
-        older,
-        &mut tops,
-        &mut entries,
-        &mut steps,
-        &mut touched,
-        &mut sought,
-        &mut seen,
-        &mut part,
-        &mut tags,
-        &mut keys,
-        &mut values,
-        &mut heads,
-        &mut chain,
-        &mut sides,
-    )
+    run(codes, marks, limit, leads, next, older)
 }
 
 // Closes the list of the first n codes for V nets.
