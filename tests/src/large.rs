@@ -1,6 +1,8 @@
 //! Lists at the limits and lists with as many gates, inputs or rounds as the limits allow.
 
-use crate::lists::{and_clauses, ite_clauses, longest, miter, pins, signed, xor_clauses, Kind, List};
+use crate::lists::{
+    and_clauses, equal_clauses, ite_clauses, longest, miter, pins, signed, xor_clauses, Clauses, Kind, List,
+};
 use crate::random::Random;
 
 pub const LARGE: [Kind; 7] = [
@@ -10,7 +12,7 @@ pub const LARGE: [Kind; 7] = [
     Kind { name: "cliques", make: cliques },
     Kind { name: "many xors", make: many_xors },
     Kind { name: "halves", make: halves },
-    Kind { name: "chains of ands", make: and_chains },
+    Kind { name: "chains of gates", make: gate_chains },
 ];
 
 /// Made once in a run.
@@ -100,7 +102,8 @@ fn many_xors(r: &mut Random) -> List {
     List { nets, clauses }
 }
 
-/// Multiplexers on one output and one of two selects: any two halves across are a gate if their literals are not inverses.
+/// Multiplexers on one output and one of two selects, which some lists join: any two halves across are a gate if their literals are
+/// not inverses.
 fn halves(r: &mut Random) -> List {
     let nets = r.between(20, 700);
     let p = pins(nets, nets, r);
@@ -111,29 +114,44 @@ fn halves(r: &mut Random) -> List {
         clauses.extend(ite_clauses(l, c, t, e));
     }
     clauses.extend(and_clauses(p[3], &p[4..9]));
+    if r.once_in(3) {
+        clauses.extend(equal_clauses(p[1], p[2]));
+    }
     clauses.extend((0..r.below(3)).map(|_| pins(nets, 1, r)));
     List { nets, clauses }
 }
 
-/// Two chains of ANDs in which each pair of nets that is joined makes the next pair alike. In the first the lowest net comes
-/// last, so that all nets of the group get another lead in each round; in the second it comes first. Other ANDs take the
-/// last nets of that one, or two that are joined 255 rounds apart.
-fn and_chains(r: &mut Random) -> List {
+/// Two chains in which each pair of nets that is joined makes the next pair of gates alike. In the first, of ANDs, the lowest net comes
+/// last, so that all nets of the group get another lead in each round; in the second, of ANDs or multiplexers, it comes first. Other
+/// ANDs take the last nets of that one, or two that are joined 255 rounds apart. Further gates take a net of the first chain, so that
+/// they change in each round.
+fn gate_chains(r: &mut Random) -> List {
     let (falling, rising) = (r.between(230, 300) as i64, r.between(260, 300) as i64);
-    let late = r.between(3, 60) as i64;
+    let (late, changing) = (r.between(3, 60) as i64, r.between(20, 90) as i64);
     let first = falling + 1;
     let last = first + rising;
-    let (a, b, c) = (last + 1, last + 2, last + 3);
-    let apart = c + late + 1;
-    let mut clauses: Vec<Vec<i64>> = (1..falling).flat_map(|i| and_clauses(i, &[i + 1, a])).collect();
-    clauses.extend((first..last).flat_map(|i| and_clauses(i + 1, &[i, b])));
-    clauses.extend((0..late).flat_map(|i| and_clauses(c + 1 + i, &[last - i, c])));
+    let (a, b, c, s) = (last + 1, last + 2, last + 3, last + 4);
+    let apart = s + late + 1;
+    let behind = apart + last - 254 - first;
+    let mut clauses: Clauses = (1..falling).flat_map(|i| and_clauses(i, &[i + 1, a])).collect();
+    let multiplexers = r.once_in(2);
+    for i in first..last {
+        clauses.extend(if multiplexers { ite_clauses(i + 1, i, b, s) } else { and_clauses(i + 1, &[i, b]) });
+    }
+    clauses.extend((0..late).flat_map(|i| and_clauses(s + 1 + i, &[last - i, c])));
     clauses.extend((first..=last - 255).zip(apart..).flat_map(|(i, l)| and_clauses(l, &[i, i + 255])));
+    for (l, x) in (0..changing).map(|i| (behind + 2 * i, behind + 2 * i + 1)) {
+        clauses.extend(match r.below(3) {
+            0 => and_clauses(l, &[falling, x]),
+            1 => xor_clauses(&[l, falling, x]),
+            _ => ite_clauses(l, falling, x, s),
+        });
+    }
     for (x, y) in [(falling - 1, falling), (first, first + 1)] {
-        clauses.extend([vec![x, -y], vec![-x, y]]);
+        clauses.extend(equal_clauses(x, y));
     }
     r.shuffle(&mut clauses);
-    List { nets: (apart + last - 255 - first) as usize, clauses }
+    List { nets: (behind + 2 * changing - 1) as usize, clauses }
 }
 
 /// Over two million multiplexers: in the XORs of two nets with each of 1,022 others, either is the select and the other the output.

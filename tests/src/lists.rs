@@ -260,7 +260,8 @@ fn doubled_pins(r: &mut Random) -> List {
 }
 
 /// An XOR of l, c and t whose halves by c are each a side of some multiplexer, and a multiplexer on c whose data pins are joined to t
-/// and its inverse: the two halves make no multiplexer, so that nothing joins the outputs.
+/// and its inverse: the two halves make no multiplexer, so that nothing joins the outputs, unless a data pin of the first one is
+/// joined to t a round later.
 fn inverse_pins(r: &mut Random) -> List {
     let mut list = List::over(8);
     let p = pins(list.nets, 8, r);
@@ -269,6 +270,11 @@ fn inverse_pins(r: &mut Random) -> List {
     list.clauses.extend(ite_clauses(l, c, p[4], -t));
     list.clauses.extend(ite_clauses(p[5], c, p[6], p[7]));
     list.clauses.extend([equal_clauses(p[6], t), equal_clauses(p[7], -t)].concat());
+    if r.once_in(2) {
+        let u = list.fresh();
+        list.clauses.push(vec![u]);
+        list.clauses.extend(and_clauses(p[4], &[t, u]));
+    }
     if r.once_in(3) {
         list.clauses.push(vec![literal(list.nets, r)]);
     }
