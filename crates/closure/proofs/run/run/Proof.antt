@@ -21,7 +21,6 @@ use Rattle.closure.specs.SideTable.{GroupJoined}
 use Rattle.closure.specs.KeptTables.{AndRows, XorRows, SideRows, Tables}
 use Rattle.closure.specs.Rounds.{Starting}
 use Rattle.closure.specs.declared.run.Slots.{Slots}
-use Rattle.closure.specs.declared.tally.Tally.{Tally}
 use Rattle.closure.proofs.Going.{found-marked, went-then, ready-on}
 use Rattle.closure.proofs.RoundStarts.{found-nets, row-ready, row-making}
 use Rattle.closure.proofs.Loop.{Between, between-sizes, is-over, loop-begins, few-made, next-starts, round-followed, fewer-left}
