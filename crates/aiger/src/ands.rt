@@ -12,7 +12,7 @@ use clauses::number::Unsigned;
 use clauses::tally::EntryTally;
 
 // The place of an AND line, and its literals.
-#[derive(Drop)]
+#[derive(Clone, Copy)]
 pub struct And {
     pub place: usize,
     pub output: u32,
@@ -21,7 +21,7 @@ pub struct And {
 }
 
 // An AND line, and the place behind it.
-#[derive(Drop)]
+#[derive(Clone, Copy)]
 pub enum AndLine {
     Gate(And, usize),
     Malformed,
@@ -29,7 +29,7 @@ pub enum AndLine {
 
 // What AND lines come to: the tally of the entries made; the start of the first line whose output is not new; or that of the first
 // line that is not as it should be.
-#[derive(Drop)]
+#[derive(Clone, Copy)]
 pub enum Scan {
     Made(EntryTally),
     OutputSet(usize),

@@ -11,7 +11,7 @@ use clauses::header::{PartEnd, word_end};
 use clauses::number::Unsigned;
 
 // M, I, L, O and A; the places of L and O, and that of the second line.
-#[derive(Drop)]
+#[derive(Clone, Copy)]
 pub struct Header {
     pub nets: u32,
     pub inputs: u32,
@@ -23,7 +23,7 @@ pub struct Header {
     pub lines: usize,
 }
 
-#[derive(Drop)]
+#[derive(Clone, Copy)]
 pub enum Heading {
     Found(Header),
     Malformed,

@@ -9,7 +9,7 @@ use crate::tree::add_new;
 use clauses::number::Unsigned;
 
 // The place behind lines, or the start of the first one that is not as it should be.
-#[derive(Drop)]
+#[derive(Clone, Copy)]
 pub enum LinesEnd {
     At(usize),
     Faulty(usize),

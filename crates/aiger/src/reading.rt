@@ -31,8 +31,8 @@ fn read_ands(
     requires output_bound { output < 1000000000 }
     requires tree { Tree h.inputs keys.old links.old }
     requires inputs_bound { (2 * h.inputs ≤ from) × (from ≤ length text.now) × (length text.now ≤ 2 * length keys.old) × (length text.now ≤ max_text) }
-    ensures* { λ r. ⌜ record { result = r; row = row.new }
-        ≡ read_lines row.old (circuit_from h.nets (take h.inputs keys.old) output (and_lines h.nets text.now h.ands from)) ⌝ }
+    ensures { record { result = result; row = row.new }
+        ≡ read_lines row.old (circuit_from h.nets (take h.inputs keys.old) output (and_lines h.nets text.now h.ands from)) }
 {
     let mut kept = [0i32; MAX_ENTRIES];
     match scan_ands(
@@ -57,7 +57,7 @@ fn read_ands(
 // Reads the lines behind the header. A line that is read has at least two bytes, so the tree has room for the nets of all.
 fn read_lines(text: &[u8], h: Header, row: &mut [i32]) -> Reading
     requires { (h.lines ≤ length text.now) × (length text.now ≤ max_text) }
-    ensures* { λ r. ⌜ record { result = r; row = row.new } ≡ read_lines row.old (circuit_lines h text.now) ⌝ }
+    ensures { record { result = result; row = row.new } ≡ read_lines row.old (circuit_lines h text.now) }
 {
     let mut keys = [0u32; MAX_TEXT / 2];
     let mut links = [0u16; MAX_TEXT + 1];

@@ -10,7 +10,7 @@ ghost use Rattle.aiger.specs.Line.{is_new};
 ghost use Rattle.aiger.specs.Tree.{Tree, Searched, Added};
 
 // Whether a literal is in the tree: if not, the empty slot where it belongs.
-#[derive(Drop)]
+#[derive(Clone, Copy)]
 enum Search {
     Present,
     Absent(usize),

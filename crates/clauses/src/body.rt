@@ -11,7 +11,7 @@ use crate::tally::EntryTally;
 use crate::text::{Class, Cursor, is_blank, run_end};
 
 // The tally of a body's numbers, or refusal 3 with the place of the first word that is not a number.
-#[derive(Drop)]
+#[derive(Clone, Copy)]
 pub enum Scan {
     Numbers(EntryTally),
     Refused(Refusal),

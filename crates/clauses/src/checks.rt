@@ -7,7 +7,7 @@ use crate::limits::{MAX_CLAUSES, MAX_ENTRIES, MAX_NETS};
 use crate::refusal::Refusal;
 use crate::tally::EntryTally;
 
-#[derive(Drop)]
+#[derive(Clone, Copy)]
 pub enum Check {
     Passed,
     Refused(Refusal),

@@ -8,21 +8,21 @@ use crate::number::{Unsigned, read_digits};
 use crate::text::{Class, run_end};
 
 // V and C.
-#[derive(Drop)]
+#[derive(Clone, Copy)]
 pub enum HeaderLine {
     Sized(u32, u32),
     Malformed,
 }
 
 // V, C and the place where the body starts; or the place of refusal 2.
-#[derive(Drop)]
+#[derive(Clone, Copy)]
 pub enum Header {
     Sized(u32, u32, usize),
     Malformed(usize),
 }
 
 // A place behind a part of a line, if the part is there.
-#[derive(Drop)]
+#[derive(Clone, Copy)]
 pub enum PartEnd {
     At(usize),
     Missing,

@@ -1,5 +1,7 @@
 // The clause list: literal codes, clauses as sets, DIMACS text in and out, and what is turned away.
 
+#![tactic(auto)]
+
 mod body;
 pub mod chain;
 pub mod checks;

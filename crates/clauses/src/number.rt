@@ -8,14 +8,14 @@ ghost use Rattle.clauses.specs.Scanning.{digits_at, unsigned_at, number_at};
 use crate::text::{Class, Cursor, is_blank, run_end};
 
 // A number that carries no minus, and the place behind it.
-#[derive(Drop)]
+#[derive(Clone, Copy)]
 pub enum Unsigned {
     Value(u32, usize),
     Malformed,
 }
 
 // A number's sign and magnitude, and the cursor behind it.
-#[derive(Drop)]
+#[derive(Clone, Copy)]
 pub enum Number {
     Value(bool, u32, Cursor),
     Malformed,

@@ -14,7 +14,7 @@ use crate::tally::tally_row;
 use crate::walk::{Walk, next};
 use crate::writing::{decimal_length, put, put_bytes, put_decimal, put_word};
 
-#[derive(Drop)]
+#[derive(Clone, Copy)]
 pub enum Printing {
     Written(usize),
     Refused(Refusal),

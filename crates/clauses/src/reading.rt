@@ -15,14 +15,14 @@ use crate::refusal::Refusal;
 use crate::tally::EntryTally;
 
 // V, C and the number of entries of a list that was read.
-#[derive(Drop)]
+#[derive(Clone, Copy)]
 pub struct ListSize {
     pub nets: u32,
     pub clauses: u32,
     pub entries: usize,
 }
 
-#[derive(Drop)]
+#[derive(Clone, Copy)]
 pub enum Reading {
     Accepted(ListSize),
     Refused(Refusal),
@@ -31,8 +31,8 @@ pub enum Reading {
 // Tests 4 to 7 and 10 to 12, of numbers whose tally is t and which kept holds; and the numbers to the row. AIGER text is read so too.
 pub fn read_numbers(kept: &[i32], v: u32, c: u32, t: EntryTally, row: &mut [i32]) -> Reading
     requires { max_entries ≤ length kept.now }
-    ensures* { λ r. ⌜ ((numbers : List ℤ) → Keeps kept.now numbers → t ≡ tally_of v numbers
-        → record { result = r; row = row.new } ≡ read_numbers row.old (record { nets = v; clauses = c }) numbers) ⌝ }
+    ensures { ((numbers : List ℤ) → Keeps kept.now numbers → t ≡ tally_of v numbers
+        → record { result = result; row = row.new } ≡ read_numbers row.old (record { nets = v; clauses = c }) numbers) }
 {
     let entries = t.entries;
     if row.len() < entries {

@@ -8,7 +8,7 @@ use crate::writing::{put_bytes, put_word};
 // Bytes of the longest refusal text: the names, a number of two digits and a place of twenty.
 pub const MAX_REFUSAL: usize = 38;
 
-#[derive(Drop)]
+#[derive(Clone, Copy)]
 pub enum Refusal {
     TextTooLong,
     Header(usize),

@@ -8,7 +8,7 @@ use crate::walk::{Walk, next};
 
 // Of the entries so far: how many; the index of the first one over V, or their number; how many are 0; whether the last
 // one is 0 or there is none.
-#[derive(Drop)]
+#[derive(Clone, Copy)]
 pub struct EntryTally {
     pub entries: usize,
     pub within: usize,

@@ -5,12 +5,12 @@ ghost use Rattle.clauses.specs.Bytes.{is_blank, is_gap, is_digit, front};
 ghost use Rattle.clauses.specs.Scanning.{is_in};
 
 // A place in a text.
-#[derive(Drop)]
+#[derive(Clone, Copy)]
 pub struct Cursor {
     pub at: usize,
 }
 
-#[derive(Drop)]
+#[derive(Clone, Copy)]
 pub enum Class {
     Digit,
     Gap,

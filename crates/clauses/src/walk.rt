@@ -4,14 +4,14 @@ ghost use Rattle.std.specs.Prelude.{◌≡◌};
 ghost use Rattle.clauses.specs.Walk.{step_at, advanced};
 
 // A literal row and a place in it.
-#[derive(Drop)]
+#[derive(Clone, Copy)]
 pub struct Walk<'a> {
     pub row: &'a [i32],
     pub at: usize,
 }
 
 // What stands at a place, and the place after it; past the row's end, 0 and the same place.
-#[derive(Drop)]
+#[derive(Clone, Copy)]
 struct Step {
     literal: i32,
     at: usize,

@@ -21,7 +21,7 @@ use clauses::place::clause_end;
 use gates::mark_bits::is_and;
 
 // A round that is being made, and whether a slot has the set of the AND at hand.
-#[derive(Drop)]
+#[derive(Clone, Copy)]
 struct Search {
     tally: Tally,
     known: bool,

@@ -34,7 +34,7 @@ const NO_LEAD: u32 = 4294967295;
 const MAX_WORK: usize = 16384;
 
 // How closing ends, the numbers of gates, and the groups left.
-#[derive(Drop)]
+#[derive(Clone, Copy)]
 pub struct Summary {
     pub verdict: Verdict,
     pub rounds: u32,
@@ -44,7 +44,7 @@ pub struct Summary {
     pub groups: u32,
 }
 
-#[derive(Drop)]
+#[derive(Clone, Copy)]
 pub enum Closing {
     Accepted(Summary),
     Refused(Refusal),
@@ -138,7 +138,7 @@ fn close_in(
 ) -> Closing
     requires passed { Passed v row.now leads.old work.old }
     requires codes_len { (length codes.old ≡ max_entries) × (length marks.old ≡ max_entries) × (length old.old ≡ max_nets) × (length new.old ≡ max_nets) × (length older.old ≡ max_nets) × (length lows.old ≡ max_nets) }
-    ensures* { λ r. ⌜ record { result = r; leads = leads.new; work = work.new } ≡ close_rounds v row.now limit leads.old work.old ⌝ }
+    ensures { record { result = result; leads = leads.new; work = work.new } ≡ close_rounds v row.now limit leads.old work.old }
 {
     let f = find_gates(row, codes, marks);
     fill(&mut work[..MAX_WORK], 0);
@@ -163,7 +163,7 @@ fn close_in(
 // The same, with rows of its own.
 fn close_rounds(v: u32, row: &[i32], limit: u32, leads: &mut [u32], work: &mut [u32]) -> Closing
     requires { Passed v row.now leads.old work.old }
-    ensures* { λ r. ⌜ record { result = r; leads = leads.new; work = work.new } ≡ close_rounds v row.now limit leads.old work.old ⌝ }
+    ensures { record { result = result; leads = leads.new; work = work.new } ≡ close_rounds v row.now limit leads.old work.old }
 {
     let mut codes = [0u32; MAX_ENTRIES];
     let mut marks = [0u8; MAX_ENTRIES];
@@ -203,7 +203,7 @@ pub fn close(
     leads: &mut [u32],
     work: &mut [u32],
 ) -> Closing
-    ensures* { λ r. ⌜ record { result = r; leads = leads.new; work = work.new } ≡ closing v c row.now limit leads.old work.old ⌝ }
+    ensures { record { result = result; leads = leads.new; work = work.new } ≡ closing v c row.now limit leads.old work.old }
 {
     let list = check_list(v, c, row, leads.len(), work.len());
     if let Check::Refused(r) = list {

@@ -10,7 +10,7 @@ use crate::lead::lead_of;
 use clauses::sign::is_inverse;
 
 // The nets of odd count, 16 bits for each in ascending order, and whether the number of inverses is odd.
-#[derive(Drop)]
+#[derive(Clone, Copy)]
 pub struct Rest {
     pub key: u64,
     pub odd: bool,

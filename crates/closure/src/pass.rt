@@ -3,7 +3,7 @@
 use crate::tally::Tally;
 
 // The tally of the round that is being made, and how many slots of the table are taken.
-#[derive(Drop)]
+#[derive(Clone, Copy)]
 pub struct Pass {
     pub tally: Tally,
     pub count: usize,

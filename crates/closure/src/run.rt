@@ -39,7 +39,7 @@ const NUMBERS: usize = 2 * MAX_ENTRIES;
 const BUCKETS: usize = 4093;
 
 // How closing ends, and the groups left.
-#[derive(Drop)]
+#[derive(Clone, Copy)]
 pub struct Ended {
     pub verdict: Verdict,
     pub rounds: u32,
@@ -47,7 +47,7 @@ pub struct Ended {
 }
 
 // The rounds made and the groups left, and whether more rounds follow; if not, how closing ends.
-#[derive(Drop)]
+#[derive(Clone, Copy)]
 pub struct Progress {
     pub verdict: Verdict,
     pub rounds: u32,
@@ -56,7 +56,7 @@ pub struct Progress {
 }
 
 // The slots taken in the tables: by ANDs, by literals of XORs, and by sides.
-#[derive(Drop)]
+#[derive(Clone, Copy)]
 pub struct Slots {
     pub ands: usize,
     pub xors: usize,

@@ -9,7 +9,7 @@ use crate::held::release;
 use crate::lead::lead_of;
 
 // A clause from its start up to its ending, and the sum of the hashes of its different leads, F left out.
-#[derive(Drop)]
+#[derive(Clone, Copy)]
 pub struct SummedClause {
     pub start: usize,
     pub end: usize,

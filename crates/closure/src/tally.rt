@@ -6,7 +6,7 @@ ghost use Rattle.closure.specs.Joining.{fewer, join_state};
 use crate::lead::{lead_of, leads_both, replace_all};
 
 // The groups left, the joins made, and whether T and F have been joined.
-#[derive(Drop)]
+#[derive(Clone, Copy)]
 pub struct Tally {
     pub groups: u32,
     pub joins: u32,

@@ -59,7 +59,7 @@ fn next_moved(older: &[u32], old: &[u32], from: usize) -> usize
 }
 
 // How many clauses are listed, and how many entries of the row they take.
-#[derive(Drop)]
+#[derive(Clone, Copy)]
 pub struct Work {
     pub clauses: usize,
     pub entries: usize,

@@ -64,7 +64,7 @@ fn mark_gates(
 }
 
 // What has been found: how many entries the row of codes has, and how many gates there are.
-#[derive(Drop)]
+#[derive(Clone, Copy)]
 pub struct Finding {
     pub entries: usize,
     pub counts: Counts,

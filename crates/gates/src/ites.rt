@@ -212,7 +212,7 @@ fn one_inverse(
 }
 
 // What the mark of a place gets, and how many ITEs with plain select and output have their side t there.
-#[derive(Drop)]
+#[derive(Clone, Copy)]
 struct Sides {
     mark: u8,
     plain: u32,

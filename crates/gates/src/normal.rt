@@ -13,7 +13,7 @@ use clauses::walk::{Walk, next};
 
 // Of the literals of a clause that were gathered: the place behind them in the row, the place behind those that were put, and
 // whether a net and its inverse are among them.
-#[derive(Drop)]
+#[derive(Clone, Copy)]
 struct Gathered {
     end: usize,
     put: usize,

@@ -14,7 +14,7 @@ use crate::literal::flipped;
 use clauses::place::literal;
 
 // Where a clause starts, if it is there.
-#[derive(Drop)]
+#[derive(Clone, Copy)]
 pub enum Place {
     At(usize),
     Nothing,

@@ -1,7 +1,7 @@
 // The closing rules, what they make of a clause list, and the theorems about it.
 
 // How closing ends.
-#[derive(Drop)]
+#[derive(Clone, Copy)]
 pub enum Verdict {
     Contradiction,
     Settled,

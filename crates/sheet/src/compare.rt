@@ -11,7 +11,7 @@ use clauses::reading::{ListSize, Reading};
 // work row are its own.
 fn write_read(list: Reading, row: &[i32], text: &mut [u8]) -> Writing
     requires { (s : ListSize) → list ≡ Reading.Accepted s → (s.entries ≤ length row.now) × (s.nets ≤ max_nets) }
-    ensures* { λ r. ⌜ record { result = r; text = text.new } ≡ sheet_of list row.now text.old ⌝ }
+    ensures { record { result = result; text = text.new } ≡ sheet_of list row.now text.old }
 {
     let mut leads = [0u32; 1024];
     let mut work = [0u32; 16384];
@@ -34,7 +34,7 @@ fn write_read(list: Reading, row: &[i32], text: &mut [u8]) -> Writing
 
 // Reads a DIMACS text and writes its sheet. The literal row has room for the numbers of any text that is not too long.
 pub fn compare(input: &[u8], text: &mut [u8]) -> Writing
-    ensures* { λ r. ⌜ record { result = r; text = text.new } ≡ comparing input.now text.old ⌝ }
+    ensures { record { result = result; text = text.new } ≡ comparing input.now text.old }
 {
     let mut row = [0i32; 32763];
     let list = clauses::reading::read(input, &mut row);
@@ -44,7 +44,7 @@ pub fn compare(input: &[u8], text: &mut [u8]) -> Writing
 // Reads an AIGER text and writes its sheet. The literal row has room for the entries that any text makes: at most ten for an AND line,
 // which has six bytes or more, and two for the output.
 pub fn compare_aiger(input: &[u8], text: &mut [u8]) -> Writing
-    ensures* { λ r. ⌜ record { result = r; text = text.new } ≡ comparing_aiger input.now text.old ⌝ }
+    ensures { record { result = result; text = text.new } ≡ comparing_aiger input.now text.old }
 {
     let mut row = [0i32; 109222];
     let list = aiger::reading::read(input, &mut row);

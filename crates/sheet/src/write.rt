@@ -12,7 +12,7 @@ use closure::close::{Closing, check_list, close};
 const MIN_BUFFER: usize = 16384;
 
 // The number of bytes written, or why the list is turned away.
-#[derive(Drop)]
+#[derive(Clone, Copy)]
 pub enum Writing {
     Written(usize),
     Refused(Refusal),
@@ -28,8 +28,8 @@ pub fn write(
     work: &mut [u32],
     text: &mut [u8],
 ) -> Writing
-    ensures* { λ r. ⌜ record { result = r; leads = leads.new; work = work.new; text = text.new }
-        ≡ writing v c row.now limit leads.old work.old text.old ⌝ }
+    ensures { record { result = result; leads = leads.new; work = work.new; text = text.new }
+        ≡ writing v c row.now limit leads.old work.old text.old }
 {
     let list = check_list(v, c, row, leads.len(), work.len());
     if let Check::Refused(r) = list {
