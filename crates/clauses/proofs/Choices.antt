@@ -24,6 +24,7 @@ sub_nil [] = none
 sub_nil (n ∷ ns) = skip (sub_nil ns)
 
 pub sub_within : {ws ns : List ℕ} → Sub ws ns → Within ws ns
+sub_within none x k = elim k [ ]
 sub_within (take s) x (Memᴰ.head e) = Memᴰ.head e
 sub_within (take s) x (Memᴰ.tail k) = Memᴰ.tail (sub_within s x k)
 sub_within (skip s) x k = Memᴰ.tail (sub_within s x k)

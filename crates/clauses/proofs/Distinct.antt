@@ -76,6 +76,7 @@ record Removed {A : Type 0} (y : A) (ys : List A) : Type 0 where
   keeps : (z : A) → z ≢ y → Memᴰ z ys → Memᴰ z rest
 
 remove : {A : Type 0} {y : A} (ys : List A) → Memᴰ y ys → Removed y ys
+remove {A = A} {y = y} [] x' = elim x' [ ]
 remove {A} {y} (x ∷ xs) (Memᴰ.head e) = record { rest = xs; size = refl; keeps = go }
   where
     go : (z : A) → z ≢ y → Memᴰ z (x ∷ xs) → Memᴰ z xs

@@ -49,6 +49,7 @@ clauses_listed (y ∷ codes) = go (eqb y 0) refl (clauses_listed codes)
     go false e h = rw (clauses_in, e) (onto_listed y codes (clauses_in codes) (eqb-false y 0 e) h)
 
 magnitude_within : (v : ℕ) (row : List ℤ) → length row ≤ first_over v row → (z : ℤ) → Memᴰ z row → nat_abs z ≤ v
+magnitude_within v [] h z x'' = elim x'' [ ]
 magnitude_within v (y ∷ row) h z (Memᴰ.head e) = rw e (within_head v y row h)
 magnitude_within v (y ∷ row) h z (Memᴰ.tail k) = magnitude_within v row (within_tail v y row h) z k
 

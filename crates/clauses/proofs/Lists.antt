@@ -74,6 +74,7 @@ pub record Origin {A B : Type 0} (f : A → B) (c : List A) (y : B) : Type 0 whe
   pub is : y ≡ f of
 
 pub mem_of_map : {A B : Type 0} (f : A → B) {y : B} (c : List A) → Memᴰ y (map f c) → Origin f c y
+mem_of_map {A = A} {B = B} f {y = y} [] x' = elim x' [ ]
 mem_of_map f (x ∷ c) (Memᴰ.head e) = record { of = x; in_list = in_first; is = e }
 mem_of_map f (x ∷ c) (Memᴰ.tail h) =
     let o = mem_of_map f c h in
@@ -102,6 +103,7 @@ module _ {A : Type 0} (f : A → Bool) where
 
   pub has_any : {x : A} (l : List A) → Memᴰ x l → f x ≡ true → any f l ≡ true
   unfolding any
+  has_any {x = x} [] x3 h = elim x3 [ ]
   has_any (y ∷ ys) (Memᴰ.head e) h = rw (sym (ap f e) ∙ h, any)
   has_any {x} (y ∷ ys) (Memᴰ.tail k) h = go (f y) refl (has_any ys k h)
     where
@@ -111,6 +113,7 @@ module _ {A : Type 0} (f : A → Bool) where
 
   pub all_have : (l : List A) → all f l ≡ true → (x : A) → Memᴰ x l → f x ≡ true
   unfolding all
+  all_have [] h x k = elim k [ ]
   all_have (y ∷ ys) h x k = go (f y) refl (all_have ys) k
     where
       go : (b : Bool) → f y ≡ b → (all f ys ≡ true → (x : A) → Memᴰ x ys → f x ≡ true) → Memᴰ x (y ∷ ys) → f x ≡ true
@@ -134,6 +137,7 @@ module _ {A : Type 0} (f : A → Bool) where
 
   pub keep_has : (l : List A) (x : A) → Memᴰ x (keep f l) → Memᴰ x l × (f x ≡ true)
   unfolding keep
+  keep_has [] x k = elim k [ ]
   keep_has (y ∷ ys) x k = go (f y) refl (keep_has ys x)
     where
       go : (b : Bool) → f y ≡ b → (Memᴰ x (keep f ys) → Memᴰ x ys × (f x ≡ true)) → Memᴰ x (y ∷ ys) × (f x ≡ true)
@@ -146,6 +150,7 @@ module _ {A : Type 0} (f : A → Bool) where
 
   pub has_keep : (l : List A) {x : A} → Memᴰ x l → f x ≡ true → Memᴰ x (keep f l)
   unfolding keep
+  has_keep [] {x = x} x4 h = elim x4 [ ]
   has_keep (y ∷ ys) (Memᴰ.head q) h = rw (sym (ap f q) ∙ h, keep) (Memᴰ.head q)
   has_keep (y ∷ ys) {x} (Memᴰ.tail m) h = go (f y) refl (has_keep ys m h)
     where
@@ -260,6 +265,7 @@ from_in a (suc n) x p q = go (ℕ_discrete x a) (from_in (suc a) n x)
 
 pub from_low : (a n x : ℕ) → Mem x (from a n) → (a ≤ x) × (x < a + n)
 unfolding from
+from_low a zero x x3 = elim x3 [ ]
 from_low a (suc n) x (Memᴰ.head e) = omega arith
 from_low a (suc n) x (Memᴰ.tail k) = let t = from_low (suc a) n x k in omega arith
 

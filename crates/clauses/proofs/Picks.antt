@@ -18,6 +18,7 @@ pub record Picked (x : ℕ) (xs : List ℕ) : Type 0 where
   pub pick : Pick x xs rest
 
 pub picked : {x : ℕ} (xs : List ℕ) → Mem x xs → Picked x xs
+picked {x = x} [] x'' = elim x'' [ ]
 picked {x} (y ∷ ys) (Memᴰ.head e) = record { rest = ys; pick = subst (λ (z : ℕ). Pick x (z ∷ ys) ys) e first }
 picked (y ∷ ys) (Memᴰ.tail k) = let p = picked ys k in record { rest = y ∷ p.rest; pick = later p.pick }
 
@@ -84,6 +85,7 @@ rest_other {x} {c} {rest} k d y m e = go (pick_distinct k d)
 
 pub picks_are : (xs : List ℕ) (p : ℕ × List ℕ) → Memᴰ p (picks xs) → Pick p.0 xs p.1
 unfolding picks
+picks_are [] p x' = elim x' [ ]
 picks_are (x ∷ xs) p (Memᴰ.head e) = subst⁻¹ (λ (q : ℕ × List ℕ). Pick q.0 (x ∷ xs) q.1) e first
 picks_are (x ∷ xs) p (Memᴰ.tail k) =
     let o = mem_of_map (λ (q : ℕ × List ℕ). (q.0, x ∷ q.1)) (picks xs) k in

@@ -153,6 +153,7 @@ pub record Placed (l : List ℕ) (x : ℕ) : Type 0 where
   pub is : get_or l place 0 ≡ x
 
 pub placed : {x : ℕ} (l : List ℕ) → Mem x l → Placed l x
+placed [] x'' = elim x'' [ ]
 placed (y ∷ l) (Memᴰ.head e) = record { place = 0; inside = omega arith; is = sym e }
 placed (y ∷ l) (Memᴰ.tail m) = let p = placed l m in record { place = suc p.place; inside = omega arith; is = p.is }
 

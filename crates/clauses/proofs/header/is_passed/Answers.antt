@@ -1,0 +1,16 @@
+use Rattle.clauses.specs.Bytes.{front, is_blank}
+use mathlib.Core.Path.{◌≡◌, sym}
+use Rattle.clauses.proofs.Headers.{blanks_passed, comment_passed}
+use lib.ListN.{get_or-eq_default, length}
+use mathlib.Core.Logic.{⊎_elim}
+use native.Mathlib.Omega.{arith}
+use Rattle.clauses.proofs.header.is_passed.Goals as goal
+
+pub returns-then-line-eq99 : goal.returns-then-line-eq99
+returns-then-line-eq99 c = sym (comment_passed _ c.if-line-eq99.true)
+
+pub returns : goal.returns
+returns c =
+    let plain = blanks_passed c.args.line.now (λ h. ⊎_elim (λ w. w.2.left h) (λ w. absurd (omega (arith, get_or-eq_default c.args.line.now 0 {n = 0} w.left))) c.if-line-gt0.branch) in
+    let end : c.run_end.result ≡ length (front is_blank c.args.line.now) = omega (arith, c.run_end.ensures) in
+    rw end (sym plain)
