@@ -19,8 +19,6 @@ pub mod Fills
 pub mod Chains
 -- A walk along a literal row
 pub mod Walks
-pub mod LentSlice
-pub mod LentWalk
 -- Tests in their order, and the tally that decides them
 pub mod Deciding
 pub mod Signed

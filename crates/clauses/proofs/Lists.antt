@@ -208,8 +208,9 @@ each_has (x ∷ xs) f {y} k = go (Memᴰ.append_cases (f x) k) (each_has xs f)
     go (inl m) ih = record { from_it = x; listed = in_first; gives = m }
     go (inr m) ih = let s = ih m in record { from_it = s.from_it; listed = Memᴰ.tail s.listed; gives = s.gives }
 
-pub has_each : {A B : Type 0} {l : List A} (f : A → List B) {x : A} {y : B} → Memᴰ x l → Memᴰ y (f x) → Memᴰ y (each l f)
+pub has_each : {A B : Type 0} {x : A} {l : List A} (f : A → List B) {y : B} → Memᴰ x l → Memᴰ y (f x) → Memᴰ y (each l f)
 unfolding each
+has_each {l = []} f x6 k = elim x6 [ ]
 has_each {l = z ∷ l} f {y = y} (Memᴰ.head e) k = Memᴰ.append_left (each l f) (subst (λ t. Memᴰ y (f t)) e k)
 has_each {l = z ∷ l} f (Memᴰ.tail m) k = Memᴰ.append_right (f z) (has_each f m k)
 

@@ -62,11 +62,14 @@ pub pick_length : {y : ℕ} {xs ys : List ℕ} → Pick y xs ys → length xs �
 pick_length first = refl
 pick_length (later h) = ap suc (pick_length h)
 
+pick_equal : {x x' : ℕ} {c ys zs : List ℕ} → Distinct c → Pick x c ys → Pick x' c zs → x ≡ x' → ys ≡ zs
+pick_equal d first first e = refl
+pick_equal (more n d) first (later k) e = absurd (n (Memᴰ.cast e (pick_in k)))
+pick_equal (more n d) (later h) first e = absurd (n (Memᴰ.cast (sym e) (pick_in h)))
+pick_equal (more n d) (later {y = y} h) (later k) e = ap (λ (t : List ℕ). y ∷ t) (pick_equal d h k e)
+
 pub pick_unique : {x : ℕ} {c ys zs : List ℕ} → Distinct c → Pick x c ys → Pick x c zs → ys ≡ zs
-pick_unique d first first = refl
-pick_unique (more n d) first (later k) = absurd (n (pick_in k))
-pick_unique (more n d) (later h) first = absurd (n (pick_in h))
-pick_unique (more n d) (later {y = y} h) (later k) = ap (λ (t : List ℕ). y ∷ t) (pick_unique d h k)
+pick_unique d h k = pick_equal d h k refl
 
 pub in_rest : {x : ℕ} {c rest : List ℕ} → Pick x c rest → (y : ℕ) → Mem y c → y ≢ x → Mem y rest
 in_rest {x} {c} {rest} k y m n = go ((pick_same k).left y m)

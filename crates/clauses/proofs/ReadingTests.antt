@@ -1,6 +1,6 @@
 -- The tests of reading: of a body by the tally of its numbers, and of a text by its header.
 -- Assumes nothing.
-use mathlib.Core.Path.{◌≡◌, refl, sym, ◌∙◌, ap}
+use mathlib.Core.Path.{◌≡◌, refl, sym, ◌∙◌, ap, subst⁻¹}
 use mathlib.Core.List.{List, [], ◌∷◌, ◌++◌, map}
 use mathlib.Core.Option.{Option, none, some}
 use Prim.Native.Nat.{ℕ, ◌≤◌, ◌<◌}
@@ -14,7 +14,7 @@ use Rattle.clauses.specs.Number.{number}
 use Rattle.clauses.specs.Refusal.{decide, size_tests, entry_tests}
 use Rattle.clauses.specs.Tally.{start, step, tallied, tally_of}
 use Rattle.clauses.specs.Check.{check_sizes, check_entries}
-use Rattle.clauses.specs.Reading.{Sizes, sized, malformed, words_of, Body, prepend, body, Outcome, refused, accepted, is_malformed, malformed_at, has_bad_word, bad_word_at, sizes_of, body_of, entries_of, heading_of, numbers_tests, body_tests, reading_tests, reading}
+use Rattle.clauses.specs.Reading.{Sizes, Heading, sized, malformed, header_malformed, words_of, Body, prepend, body, Outcome, refused, accepted, is_malformed, malformed_at, has_bad_word, bad_word_at, sizes_of, body_of, entries_of, heading_of, numbers_tests, body_tests, reading_tests, reading}
 use Rattle.clauses.specs.Scanning.{words_from, HeaderFound, scanned, numbers_of, read_body, read_numbers}
 use Rattle.clauses.specs.declared.refusal.Refusal.{Refusal}
 use Rattle.clauses.specs.declared.refusal.Refusal.TheVariants.{TextTooLong, Header, Word, RowTooShort}
@@ -116,7 +116,7 @@ module _ (row : List ℤ) (s : Sizes) where
 
   pub body_numbers : (b : Body) (numbers : List ℤ) → b ≡ Body.entries numbers → read_body row s b ≡ read_numbers row s numbers
   unfolding read_body read_numbers body_tests has_bad_word entries_of decide
-  body_numbers b numbers e = rw e
+  body_numbers b numbers e = subst⁻¹ (λ (t : Body). read_body row s t ≡ read_numbers row s numbers) e refl
 
 module _ (text : List ℕ) (row : List ℤ) where
   pub text_long : max_text < length text → reading text row ≡ refused row TextTooLong
@@ -128,9 +128,19 @@ module _ (text : List ℕ) (row : List ℤ) where
     unfolding reading reading_tests is_malformed malformed_at decide
     heading_malformed p e = rw (le-ltb _ _ h, e)
 
+    sized_heading : (s : Sizes) (ls : List Stretch) (t : Heading) → t ≡ sized s ls
+        → decide (refused row) (accepted row (sizes_of t) (entries_of (body_of t))) (header_malformed t ∷ body_tests row (sizes_of t) (body_of t))
+        ≡ read_body row s (body (words_of ls))
+    unfolding read_body is_malformed sizes_of body_of decide
+    sized_heading s ls t e =
+        subst⁻¹
+        (λ (t : Heading). decide (refused row) (accepted row (sizes_of t) (entries_of (body_of t))) (header_malformed t ∷ body_tests row (sizes_of t) (body_of t))
+          ≡ read_body row s (body (words_of ls)))
+        e refl
+
     pub heading_sized : (s : Sizes) (ls : List Stretch) → heading_of text ≡ sized s ls → reading text row ≡ read_body row s (body (words_of ls))
     unfolding reading read_body reading_tests is_malformed sizes_of body_of decide
-    heading_sized s ls e = rw (le-ltb _ _ h, e)
+    heading_sized s ls e = rw (le-ltb _ _ h) (sized_heading s ls (heading_of text) e)
 
     pub header_sized : (v c q : ℕ) → HeaderFound text (H.Sized v c q) → reading text row ≡ read_body row (record { nets = v; clauses = c }) (body (words_from text q))
     header_sized v c q f = heading_sized _ f.0 f.1 ∙ rw f.2

@@ -1,19 +1,14 @@
 -- The cases of a step along a literal row, and what a loop over a walk needs.
 -- Assumes nothing.
-use mathlib.Core.Path.{◌≡◌, refl, subst}
-use mathlib.Core.Bool.{Bool, not}
-use mathlib.Core.WellFounded.InvImage
-use mathlib.Core.WellFounded.{WellFounded}
+use mathlib.Core.Path.{◌≡◌, ◌∙◌, ap, refl}
 use mathlib.Core.List.{List}
 use Prim.Native.Nat.{ℕ, ◌+◌, ◌-◌, ◌≤◌, ◌<◌}
-use lib.Dec.{T as Holds, leb}
 use lib.IntN.{ℤ, pos}
-use lib.WfN.{lt-wf_rel}
 use lib.ListN.{length, get_or, get_or-eq_default}
-use borrow.Author.Tests.{lt-ltb, le-ltb, leb-false}
-use borrow.Table.Steps.{cases}
+use borrow.Author.Tests.{lt-ltb, le-ltb}
 use Rattle.clauses.specs.declared.walk.Step.{Step}
-use Rattle.clauses.specs.Walk.{step_at}
+use Rattle.clauses.specs.declared.walk.Walk.{Walk}
+use Rattle.clauses.specs.Walk.{step_at, advanced}
 
 module _ (row : List ℤ) (i : ℕ) where
   abbrev pub stopped : Step
@@ -32,10 +27,16 @@ module _ (row : List ℤ) (i : ℕ) where
   pub step_place : i < length row → (step_at row i).at ≡ i + 1
   step_place h = rw (lt-ltb i (length row) h) refl
 
--- where the test that a walk is past its end fails, the walk is before it
-pub before : (n i : ℕ) → Holds (not (leb n i)) → i < n
-before n i h = cases (leb n i) (λ e. absurd (subst (λ (b : Bool). Holds (not b)) e h)) (λ e. leb-false n i e)
+-- a step of a walk that is inside its row
+pub record Stepped (row : List ℤ) (x : ℤ) (w w' : Walk) : Type 0 where
+  pub literal : x ≡ get_or row w.at (pos 0)
+  pub lent : w'.row.now ≡ row
+  pub on : w'.at ≡ w.at + 1
 
--- a loop whose turns end nearer to the place n ends
-pub nearer_ends : {State : Type 0} (n : ℕ) (at : State → ℕ) → WellFounded (λ (u t : State). n - at u < n - at t)
-nearer_ends {State} n at = InvImage.wf (λ (t : State). n - at t) lt-wf_rel.wf
+pub stepped : (row : List ℤ) (x : ℤ) (w w' : Walk) → w.row.now ≡ row → w.at < length row → (x ≡ (step_at w.row.now w.at).literal) × (w' ≡ advanced w) → Stepped row x w w'
+stepped row x w w' lent inside e =
+    record {
+      literal = e.0 ∙ ap (λ (l : List ℤ). get_or l w.at (pos 0)) lent;
+      lent = ap (λ (v : Walk). v.row.now) e.1 ∙ lent;
+      on = ap (λ (v : Walk). v.at) e.1 ∙ step_place w.row.now w.at (rw lent inside);
+    }

@@ -20,14 +20,13 @@ shape_of-kept-in_default c = c.loop-at.invariant.size
 pub returns-in_default : goal.returns-in_default
 unfolding scanned_from
 returns-in_default c =
-    let s = c in
-    scan_breaks (s.args.text.now) s.args.v s.args.from (s.args.kept.now) _ _ _ c.loop-at.invariant c.loop-at-test.true (sym c.read_number.ensures ∙ c.in_default.is)
+    let s = c in record { value = (scan_breaks (s.args.text.now) s.args.v s.args.from (s.args.kept.now) _ _ _ c.loop-at.invariant c.loop-at-test.true (sym c.read_number.ensures ∙ c.in_default.is)).0; kept_after = (scan_breaks (s.args.text.now) s.args.v s.args.from (s.args.kept.now) _ _ _ c.loop-at.invariant c.loop-at-test.true (sym c.read_number.ensures ∙ c.in_default.is)).1 }
 
 pub put_entry-requires : goal.put_entry-requires
 put_entry-requires c = magnitude_small (drop c.loop-at.at (c.args.text.now)) c.loop-at.at _ _ _ (sym c.read_number.ensures ∙ c.in-Value.is)
 
 pub add-t-requires : goal.add-t-requires
-add-t-requires c = (c.loop-at.invariant.zeros_few, omega (arith, c.loop-at.invariant.entries_few, c.loop-at-test.true))
+add-t-requires c = record { zeros_le_entries = c.loop-at.invariant.zeros_few; entries_bound = omega (arith, c.loop-at.invariant.entries_few, c.loop-at-test.true) }
 
 pub next_word-at-requires-in-loop-at : goal.next_word-at-requires-in-loop-at
 next_word-at-requires-in-loop-at c =
@@ -51,5 +50,4 @@ shape_of-kept c = c.loop-at.invariant.size
 pub returns : goal.returns
 unfolding scanned_from
 returns c =
-    let s = c in
-    scan_ends (s.args.text.now) s.args.v s.args.from (s.args.kept.now) _ _ _ c.loop-at.invariant c.loop-at-test.false
+    let s = c in record { value = (scan_ends (s.args.text.now) s.args.v s.args.from (s.args.kept.now) _ _ _ c.loop-at.invariant c.loop-at-test.false).0; kept_after = (scan_ends (s.args.text.now) s.args.v s.args.from (s.args.kept.now) _ _ _ c.loop-at.invariant c.loop-at-test.false).1 }

@@ -26,10 +26,10 @@ pub returns-then-is_negative : goal.returns-then-is_negative
 returns-then-is_negative c =
     let size : c.magnitude-m.result ≡ nat_abs c.args.x = magnitude_back c.args.x c.ranges.x.sfits c.magnitude-m.ensures in
     let sign : c.is_negative.result ≡ not (non_neg c.args.x) = sign_back c.args.x c.ranges.x.sfits c.is_negative.ensures in
-    ap (λ (m : ℕ). 2 * m + 1) (size ∙ code_negative c.args.x (sym (sign ∙ c.if-is_negative.true)
+    ap (λ (m : ℕ). 2 * m + 1) size ∙ code_negative c.args.x (sym sign ∙ c.if-is_negative.true)
 
 pub returns-else-is_negative : goal.returns-else-is_negative
 returns-else-is_negative c =
     let size : c.magnitude-m.result ≡ nat_abs c.args.x = magnitude_back c.args.x c.ranges.x.sfits c.magnitude-m.ensures in
     let sign : c.is_negative.result ≡ not (non_neg c.args.x) = sign_back c.args.x c.ranges.x.sfits c.is_negative.ensures in
-    ap (λ (m : ℕ). 2 * m) (size ∙ code_positive c.args.x (sym (sign ∙ c.if-is_negative.false)
+    ap (λ (m : ℕ). 2 * m) size ∙ code_positive c.args.x (sym sign ∙ c.if-is_negative.false)

@@ -1,5 +1,5 @@
 use mathlib.Core.Bool.{true≢false, false}
-use Prim.Native.Nat.{◌<◌, ℕ, ◌-◌, ◌≤◌}
+use Prim.Native.Nat.{◌<◌, ◌-◌, ◌≤◌}
 use Rattle.clauses.proofs.Bodies.{passed_empty, header_none, header_some, heading_behind, heading_malformed, heading_passed, heading_sized, line_part, words_behind_line, heading_missing}
 use native.Mathlib.Decide.{dec_lt}
 use Rattle.clauses.proofs.LinesAndWords.{is_lf}
@@ -9,88 +9,84 @@ use Rattle.clauses.specs.Bytes.{front}
 use Rattle.clauses.specs.Reading.{header_line, is_passed}
 use borrow.Author.Tests.{not-false, not-true}
 use lib.ListN.{length-drop, take, drop, length}
-use mathlib.Core.List.{List}
 use mathlib.Core.Path.{ap, sym, ◌∙◌, ◌≡◌, refl}
 use native.Mathlib.Omega.{arith}
 use Rattle.clauses.proofs.header.find_header.Goals as goal
-
-)
-  where
-    not-passed : is_passed (front (lacks is_lf) (drop c.before.before.before.before.before.before.before.before.before.before.loop.at (text c.before.before.before.before.before.before.before.before.before.before.before.before))) ≡ false
-    not-passed = ap is_passed (sym (line c.before.before.before.before.before.before.before.before)) ∙ sym c.before.before.before.before.before.before.is-passed.ensures ∙ not-true _ c.before.before.before.before.before.if1.true
-
-    more : c.before.before.before.before.before.before.before.before.before.before.loop.at < c.before.before.before.before.before.before.before.before.run-end.result
-    more = go (dec_lt c.before.before.before.before.before.before.before.before.before.before.loop.at c.before.before.before.before.before.before.before.before.run-end.result)
-      where
-        go : Dec (c.before.before.before.before.before.before.before.before.before.before.loop.at < c.before.before.before.before.before.before.before.before.run-end.result) → c.before.before.before.before.before.before.before.before.before.before.loop.at < c.before.before.before.before.before.before.before.before.run-end.result
-        go (yes h) = h
-        go (no h) = absurd (true≢false (sym (passed_empty _ (omega (arith, c.before.before.before.before.before.before.before.before.run-end.ensures))) ∙ not-passed))
-
-)
 
 pub loop-at-init : goal.loop-at-init
 loop-at-init c = (refl, omega arith)
 
 pub slice_bounds-is_passed-end : goal.slice_bounds-is_passed-end
 slice_bounds-is_passed-end c =
-    let text : List ℕ = c.args.text.now in
-    let room : length (front (lacks is_lf) (drop c.loop-at.at (c.args.text.now))) ≤ length (drop c.loop-at.at (c.args.text.now)) = front_length (lacks is_lf) (drop c.loop-at.at (c.args.text.now)) in
-    let end-within : c.run_end-end.result ≤ length (c.args.text.now) = omega (arith, room, c.run_end-end.ensures, length-drop c.loop-at.at (c.args.text.now), c.loop-at-test.true) in
+    let room : length (front (lacks is_lf) (drop c.loop-at.at c.args.text.now)) ≤ length (drop c.loop-at.at c.args.text.now) = front_length (lacks is_lf) (drop c.loop-at.at c.args.text.now) in
+    let end-within : c.run_end-end.result ≤ length c.args.text.now = omega (arith, room, c.run_end-end.ensures, length-drop c.loop-at.at c.args.text.now, c.loop-at-test.true) in
     end-within
 
 pub slice_bounds-read_header-end : goal.slice_bounds-read_header-end
 slice_bounds-read_header-end c =
-    let text : List ℕ = c.args.text.now in
-    let room : length (front (lacks is_lf) (drop c.loop-at.at (c.args.text.now))) ≤ length (drop c.loop-at.at (c.args.text.now)) = front_length (lacks is_lf) (drop c.loop-at.at (c.args.text.now)) in
-    let end-within : c.run_end-end.result ≤ length (c.args.text.now) = omega (arith, room, c.run_end-end.ensures, length-drop c.loop-at.at (c.args.text.now), c.loop-at-test.true) in
+    let room : length (front (lacks is_lf) (drop c.loop-at.at c.args.text.now)) ≤ length (drop c.loop-at.at c.args.text.now) = front_length (lacks is_lf) (drop c.loop-at.at c.args.text.now) in
+    let end-within : c.run_end-end.result ≤ length c.args.text.now = omega (arith, room, c.run_end-end.ensures, length-drop c.loop-at.at c.args.text.now, c.loop-at-test.true) in
     end-within
 
 pub returns-in_default : goal.returns-in_default
 returns-in_default c =
-    let text : List ℕ = c.args.text.now in
-    let line : take (c.run_end-end.result - c.loop-at.at) (drop c.loop-at.at (c.args.text.now)) ≡ front (lacks is_lf) (drop c.loop-at.at (c.args.text.now)) = line_part (c.args.text.now) c.loop-at.at c.run_end-end.result c.run_end-end.ensures in
+    let line : take (c.run_end-end.result - c.loop-at.at) (drop c.loop-at.at c.args.text.now) ≡ front (lacks is_lf) (drop c.loop-at.at c.args.text.now) = line_part c.args.text.now c.loop-at.at c.run_end-end.result c.run_end-end.ensures in
     c.loop-at.invariant.0
-    ∙ heading_malformed _ (c.args.text.now) c.loop-at.at (ap is_passed (sym (line) ∙ sym c.is_passed.ensures ∙ not-true _ c.if-not-is_passed.true)
-    (ap header_line (sym (line) ∙ header_none _ (sym c.read_header.ensures ∙ c.in_default.is))
+    ∙ heading_malformed _ c.args.text.now c.loop-at.at (ap is_passed (sym line) ∙ sym c.is_passed.ensures ∙ not-true _ c.if-not-is_passed.true-raw)
+    (ap header_line (sym line) ∙ header_none _ (sym c.read_header.ensures ∙ c.in_default.is))
 
 pub returns-then-not-is_passed : goal.returns-then-not-is_passed
 returns-then-not-is_passed c =
-    let text : List ℕ = c.args.text.now in
-    let line : take (c.run_end-end.result - c.loop-at.at) (drop c.loop-at.at (c.args.text.now)) ≡ front (lacks is_lf) (drop c.loop-at.at (c.args.text.now)) = line_part (c.args.text.now) c.loop-at.at c.run_end-end.result c.run_end-end.ensures in
-    let room : length (front (lacks is_lf) (drop c.loop-at.at (c.args.text.now))) ≤ length (drop c.loop-at.at (c.args.text.now)) = front_length (lacks is_lf) (drop c.loop-at.at (c.args.text.now)) in
-    let end-within : c.run_end-end.result ≤ length (c.args.text.now) = omega (arith, room, c.run_end-end.ensures, length-drop c.loop-at.at (c.args.text.now), c.loop-at-test.true) in
     (
-  following is_lf c.loop-at.at (drop c.loop-at.at (c.args.text.now)),
+  following is_lf c.loop-at.at (drop c.loop-at.at c.args.text.now),
   c.loop-at.invariant.0
-      ∙ heading_sized _ (c.args.text.now) c.loop-at.at _ not-passed (ap header_line (sym (line) ∙ header_some _ _ _ (sym c.read_header.ensures ∙ c.in-Sized.is)),
-  words_behind_line (c.args.text.now) c.loop-at.at c.run_end-end.result c.run_end-end.ensures more,
+      ∙ heading_sized _ c.args.text.now c.loop-at.at _ not-passed (ap header_line (sym line) ∙ header_some _ _ _ (sym c.read_header.ensures ∙ c.in-Sized.is)),
+  words_behind_line c.args.text.now c.loop-at.at c.run_end-end.result c.run_end-end.ensures more,
   end-within,
+)
+  where
+    line : take (c.run_end-end.result - c.loop-at.at) (drop c.loop-at.at c.args.text.now) ≡ front (lacks is_lf) (drop c.loop-at.at c.args.text.now)
+    line = line_part c.args.text.now c.loop-at.at c.run_end-end.result c.run_end-end.ensures
+
+    room : length (front (lacks is_lf) (drop c.loop-at.at c.args.text.now)) ≤ length (drop c.loop-at.at c.args.text.now)
+    room = front_length (lacks is_lf) (drop c.loop-at.at c.args.text.now)
+
+    end-within : c.run_end-end.result ≤ length c.args.text.now
+    end-within = omega (arith, room, c.run_end-end.ensures, length-drop c.loop-at.at c.args.text.now, c.loop-at-test.true)
+
+    not-passed : is_passed (front (lacks is_lf) (drop c.loop-at.at c.args.text.now)) ≡ false
+    not-passed = ap is_passed (sym line) ∙ sym c.is_passed.ensures ∙ not-true _ c.if-not-is_passed.true-raw
+
+    more : c.loop-at.at < c.run_end-end.result
+    more = go (dec_lt c.loop-at.at c.run_end-end.result)
+      where
+        go : Dec (c.loop-at.at < c.run_end-end.result) → c.loop-at.at < c.run_end-end.result
+        go (yes h) = h
+        go (no h) = absurd (true≢false (sym (passed_empty _ (omega (arith, c.run_end-end.ensures))) ∙ not-passed))
 
 pub overflow_add-at : goal.overflow_add-at
 overflow_add-at c =
-    let text : List ℕ = c.args.text.now in
-    let room : length (front (lacks is_lf) (drop c.loop-at.at (c.args.text.now))) ≤ length (drop c.loop-at.at (c.args.text.now)) = front_length (lacks is_lf) (drop c.loop-at.at (c.args.text.now)) in
-    let end-within : c.run_end-end.result ≤ length (c.args.text.now) = omega (arith, room, c.run_end-end.ensures, length-drop c.loop-at.at (c.args.text.now), c.loop-at-test.true) in
+    let room : length (front (lacks is_lf) (drop c.loop-at.at c.args.text.now)) ≤ length (drop c.loop-at.at c.args.text.now) = front_length (lacks is_lf) (drop c.loop-at.at c.args.text.now) in
+    let end-within : c.run_end-end.result ≤ length c.args.text.now = omega (arith, room, c.run_end-end.ensures, length-drop c.loop-at.at c.args.text.now, c.loop-at-test.true) in
     omega (arith, end-within, c.requires)
 
 pub loop-at-smaller : goal.loop-at-smaller
 loop-at-smaller c =
-    let text : List ℕ = c.args.text.now in
-    let room : length (front (lacks is_lf) (drop c.loop-at.at (c.args.text.now))) ≤ length (drop c.loop-at.at (c.args.text.now)) = front_length (lacks is_lf) (drop c.loop-at.at (c.args.text.now)) in
-    let end-within : c.run_end-end.result ≤ length (c.args.text.now) = omega (arith, room, c.run_end-end.ensures, length-drop c.loop-at.at (c.args.text.now), c.loop-at-test.true) in
+    let room : length (front (lacks is_lf) (drop c.loop-at.at c.args.text.now)) ≤ length (drop c.loop-at.at c.args.text.now) = front_length (lacks is_lf) (drop c.loop-at.at c.args.text.now) in
+    let end-within : c.run_end-end.result ≤ length c.args.text.now = omega (arith, room, c.run_end-end.ensures, length-drop c.loop-at.at c.args.text.now, c.loop-at-test.true) in
     omega (arith, end-within, c.run_end-end.ensures, c.loop-at-test.true)
 
 pub loop-at-preserved : goal.loop-at-preserved
 loop-at-preserved c =
-    let text : List ℕ = c.args.text.now in
-    let line : take (c.run_end-end.result - c.loop-at.at) (drop c.loop-at.at (c.args.text.now)) ≡ front (lacks is_lf) (drop c.loop-at.at (c.args.text.now)) = line_part (c.args.text.now) c.loop-at.at c.run_end-end.result c.run_end-end.ensures in
-    let room : length (front (lacks is_lf) (drop c.loop-at.at (c.args.text.now))) ≤ length (drop c.loop-at.at (c.args.text.now)) = front_length (lacks is_lf) (drop c.loop-at.at (c.args.text.now)) in
-    let end-within : c.run_end-end.result ≤ length (c.args.text.now) = omega (arith, room, c.run_end-end.ensures, length-drop c.loop-at.at (c.args.text.now), c.loop-at-test.true) in
+    let line : take (c.run_end-end.result - c.loop-at.at) (drop c.loop-at.at c.args.text.now) ≡ front (lacks is_lf) (drop c.loop-at.at c.args.text.now) = line_part c.args.text.now c.loop-at.at c.run_end-end.result c.run_end-end.ensures in
+    let room : length (front (lacks is_lf) (drop c.loop-at.at c.args.text.now)) ≤ length (drop c.loop-at.at c.args.text.now) = front_length (lacks is_lf) (drop c.loop-at.at c.args.text.now) in
+    let end-within : c.run_end-end.result ≤ length c.args.text.now = omega (arith, room, c.run_end-end.ensures, length-drop c.loop-at.at c.args.text.now, c.loop-at-test.true) in
     (
   c.loop-at.invariant.0
-      ∙ heading_passed _ (c.args.text.now) c.loop-at.at (ap is_passed (sym (line) ∙ sym c.is_passed.ensures ∙ not-false _ c.if-not-is_passed.false)
-      ∙ heading_behind (c.args.text.now) c.loop-at.at c.run_end-end.result c.run_end-end.ensures _,
-  omega (arith, end-within,
+      ∙ heading_passed _ c.args.text.now c.loop-at.at (ap is_passed (sym line) ∙ sym c.is_passed.ensures ∙ not-false _ c.if-not-is_passed.false-raw)
+      ∙ heading_behind c.args.text.now c.loop-at.at c.run_end-end.result c.run_end-end.ensures _,
+  omega (arith, end-within),
+)
 
 pub returns : goal.returns
 returns c = c.loop-at.invariant.0 ∙ heading_missing (length c.args.text.now) c.args.text.now c.loop-at.at c.loop-at-test.false

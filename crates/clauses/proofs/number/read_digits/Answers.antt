@@ -7,6 +7,7 @@ use mathlib.Core.Logic.{⊎_elim}
 use mathlib.Core.Path.{sym}
 use native.Mathlib.Omega.{arith}
 use Rattle.clauses.proofs.number.read_digits.Goals as goal
+use Rattle.clauses.proofs.number.read_digits.Goals.{then-at-end-2+else-text-at-eq48, else-at-end-2}
 
 pub returns-then-end-at : goal.returns-then-end-at
 returns-then-end-at c = sym (digits_none _ _ _ c.run_end-end.ensures c.if-end-at.true)
@@ -14,7 +15,7 @@ returns-then-end-at c = sym (digits_none _ _ _ c.run_end-end.ensures c.if-end-at
 pub overflow_add-at : goal.overflow_add-at
 overflow_add-at c =
     let inside : c.args.at < length c.args.text.now = (run_inside is_digit c.args.text.now c.args.at (omega (arith, c.run_end-end.ensures, c.if-end-at.false))).0 in
-    omega (arith, inside
+    omega (arith, inside)
 
 pub returns-then-at-end : goal.returns-then-at-end
 returns-then-at-end c = sym (digits_too_many _ _ _ c.run_end-end.ensures c.if-at-end.true)
@@ -22,7 +23,7 @@ returns-then-at-end c = sym (digits_too_many _ _ _ c.run_end-end.ensures c.if-at
 pub overflow_add-at-2 : goal.overflow_add-at-2
 overflow_add-at-2 c =
     let inside : c.args.at < length c.args.text.now = (run_inside is_digit c.args.text.now c.args.at (omega (arith, c.run_end-end.ensures, c.if-end-at.false))).0 in
-    omega (arith, inside
+    omega (arith, inside)
 
 pub bounds-text-at : goal.bounds-text-at
 bounds-text-at c =
@@ -39,4 +40,4 @@ pub returns : goal.returns
 returns c =
     rw c.digits_value.ensures.0
     (digits_read _ _ _ c.run_end-end.ensures c.if-end-at.false c.if-at-end.false
-    (λ h z. ⊎_elim (λ w. w.2.left z) (λ w. absurd (omega (arith, w.left))) c.if-at-end-2.branch))
+    (λ h z. elim c.if-at-end-2.branch [ then-at-end-2+else-text-at-eq48 w ↦ w.if-text-at-eq48.false z | else-at-end-2 w ↦ absurd (omega arith) ]))

@@ -10,12 +10,12 @@ returns-in_default c = sym (unsigned_malformed _ _ (sym c.read_digits.ensures �
 
 pub returns-then-not-is_blank : goal.returns-then-not-is_blank
 returns-then-not-is_blank c =
-    word_breaks (c.args.text.now) (c.args.at) _ _ (sym c.read_digits.ensures ∙ c.in-Value.is) c.if-end-text.true (sym c.is_blank.ensures ∙ not-true _ c.if-not-is_blank.true)
+    word_breaks (c.args.text.now) (c.args.at) _ _ (sym c.read_digits.ensures ∙ c.in-Value.is) c.if-end-text.true (sym c.is_blank.ensures ∙ not-true _ c.if-not-is_blank.true-raw)
 
 pub returns-else-not-is_blank : goal.returns-else-not-is_blank
 returns-else-not-is_blank c =
     word_stops (c.args.text.now) (c.args.at) _ _ (sym c.read_digits.ensures ∙ c.in-Value.is)
-    (run_stops is_in_word (c.args.text.now) c.in-Value.end c.if-end-text.true (rw (← c.is_blank.ensures) c.if-not-is_blank.false))
+    (run_stops is_in_word (c.args.text.now) c.in-Value.end c.if-end-text.true (rw (← c.is_blank.ensures) c.if-not-is_blank.false-raw))
 
 pub returns-else-end-text : goal.returns-else-end-text
 returns-else-end-text c =

@@ -16,4 +16,4 @@ pub returns : goal.returns
 returns c =
     let entry : c.entry_length.result ≡ length (entry_text c.args.x) = c.entry_length.ensures
         ∙ ap (λ (z : ℤ). length (entry_text z)) (read_back c.args.x c.ranges.x.sfits) in
-    omega (arith, entry
+    omega (arith, entry)

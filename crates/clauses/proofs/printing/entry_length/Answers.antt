@@ -24,4 +24,4 @@ returns c =
         c.number_length.ensures ∙ ap (λ (z : ℤ). length (signed_decimal z)) (read_back start.args.x start.ranges.x.sfits) in
     let start = c in
     let e = entry_literal_length start.args.x _ (magnitude_back start.args.x start.ranges.x.sfits c.magnitude.ensures) c.if-magnitude-eq0.false in
-    omega (arith, number
+    omega (arith, number)

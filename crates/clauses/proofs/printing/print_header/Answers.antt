@@ -1,4 +1,4 @@
-use mathlib.Core.List.{◌∷◌}
+use mathlib.Core.List.{[], ◌∷◌}
 use native.Mathlib.Omega.{arith}
 use lib.ListN.{length-append}
 use Rattle.clauses.specs.Bytes.{space, lf}
@@ -13,7 +13,7 @@ put_bytes-nets-requires c = omega (arith, c.requires, header_length c.args.v c.a
 pub put_word-clauses-requires : goal.put_word-clauses-requires
 put_word-clauses-requires c =
     let s = c.args in
-    omega (arith, c.requires, c.put_bytes-nets.ensures.end, c.put_bytes-nets.auto.0, header_length s.v s.c, length-append (decimal s.v) (space ∷ []))
+    omega (arith, c.requires, c.put_bytes-nets.ensures.end, c.put_bytes-nets.auto.text, header_length s.v s.c, length-append (decimal s.v) (space ∷ []))
 
 pub put_word-requires : goal.put_word-requires
 put_word-requires c =
@@ -22,9 +22,9 @@ put_word-requires c =
       arith,
       c.requires,
       c.put_bytes-nets.ensures.end,
-      c.put_bytes-nets.auto.0,
+      c.put_bytes-nets.auto.text,
       c.put_word-clauses.ensures.end,
-      c.put_word-clauses.auto.0,
+      c.put_word-clauses.auto.text,
       header_length s.v s.c,
       length-append (decimal s.v) (space ∷ []),
       length-append (decimal s.c) (lf ∷ []),

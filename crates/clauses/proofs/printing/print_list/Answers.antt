@@ -12,7 +12,7 @@ print_header-body-requires c =
 pub print_row-requires : goal.print_row-requires
 print_row-requires c =
     let s = c.args in
-    omega (arith, c.requires, list_length s.v s.c s.row.now, c.print_header-body.ensures.end, c.print_header-body.auto.0)
+    omega (arith, c.requires, list_length s.v s.c s.row.now, c.print_header-body.ensures.end, c.print_header-body.auto.text)
 
 pub returns : goal.returns
 unfolding list_text

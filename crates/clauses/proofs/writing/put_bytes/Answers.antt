@@ -23,7 +23,7 @@ loop-i-preserved c =
     let bytes = c.args.bytes.now in
     let h : i < length bytes = omega arith in (
       rw (add-one, take-suc bytes i 0) (wrote_then inv.0 c.put-next.ensures),
-      omega (arith, c.put-next.auto.0),
+      omega (arith, c.put-next.auto.text),
       omega arith,
     )
 

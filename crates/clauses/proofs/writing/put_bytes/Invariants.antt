@@ -5,7 +5,7 @@ use Rattle.clauses.specs.Writing.{Wrote}
 use Rattle.clauses.proofs.writing.put_bytes.Given as goal
 
 abbrev pub invariant-loop-i : goal.invariant-loop-i
-invariant-loop-i l = Wrote l.at l.bytes (take l.i l.initial.text) l.text l.next × (length l.text ≡ length l.at) × (l.i ≤ length l.initial.text)
+invariant-loop-i l = Wrote l.initial.text l.at (take l.i l.bytes) l.text l.next × (length l.text ≡ length l.initial.text) × (l.i ≤ length l.bytes)
 
 abbrev pub decreases-loop-i : goal.decreases-loop-i
-decreases-loop-i l = length l.initial.text - l.i
+decreases-loop-i l = length l.bytes - l.i
