@@ -1,5 +1,7 @@
 // AIGER text in: the circuit that a file says, and its clauses.
 
+#![tactic(auto)]
+
 mod ands;
 mod clause;
 mod header;

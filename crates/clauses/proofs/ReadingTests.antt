@@ -135,7 +135,7 @@ module _ (text : List ℕ) (row : List ℤ) where
     sized_heading s ls t e =
         subst⁻¹
         (λ (t : Heading). decide (refused row) (accepted row (sizes_of t) (entries_of (body_of t))) (header_malformed t ∷ body_tests row (sizes_of t) (body_of t))
-          ≡ read_body row s (body (words_of ls)))
+        ≡ read_body row s (body (words_of ls)))
         e refl
 
     pub heading_sized : (s : Sizes) (ls : List Stretch) → heading_of text ≡ sized s ls → reading text row ≡ read_body row s (body (words_of ls))

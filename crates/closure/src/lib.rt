@@ -1,5 +1,7 @@
 // The closing rounds.
 
+#![tactic(auto)]
+
 mod and_pairs;
 mod and_sets;
 mod ands;

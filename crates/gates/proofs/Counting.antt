@@ -18,6 +18,7 @@ module _ {A : Type 0} {Like : A → A → Type 0} (eqv : Equivalence Like) where
   unlike_distinct (more {x = x} n u) = Distinct.more (λ k. n x k (eqv.refl x)) (unlike_distinct u)
 
   unlike_equal : {xs : List A} → Unlike Like xs → (x y : A) → Memᴰ x xs → Memᴰ y xs → Like x y → x ≡ y
+  unlike_equal none x y x10 _ h = elim x10 [ ]
   unlike_equal (more n u) x y (Memᴰ.head p) (Memᴰ.head q) h = p ∙ sym q
   unlike_equal (more n u) x y (Memᴰ.head p) (Memᴰ.tail k) h = absurd (n y k (subst (λ (z : A). Like z y) p h))
   unlike_equal (more n u) x y (Memᴰ.tail k) (Memᴰ.head q) h = absurd (n x k (subst (λ (z : A). Like z x) q (eqv.symm x y h)))

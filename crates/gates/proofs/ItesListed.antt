@@ -33,10 +33,12 @@ pub nets_apart : {l c t : ℕ} → ThreeNets l c t → Apart (l ∷ c ∷ t ∷ 
 nets_apart {l} {c} {t} f = Apart.more from_l (Apart.more from_c (Apart.more (λ m k. absurd (Memᴰ.not-nil k)) Apart.empty))
   where
     from_l : (m : ℕ) → Mem m (c ∷ t ∷ []) → net m ≢ net l
+    from_l m (Memᴰ.tail (Memᴰ.tail x9)) z = elim x9 [ ]
     from_l m (Memᴰ.head q) z = f.cl (sym (ap net q) ∙ z)
     from_l m (Memᴰ.tail (Memᴰ.head q)) z = f.tl (sym (ap net q) ∙ z)
 
     from_c : (m : ℕ) → Mem m (t ∷ []) → net m ≢ net c
+    from_c m (Memᴰ.tail x5) z = elim x5 [ ]
     from_c m (Memᴰ.head q) z = f.tc (sym (ap net q) ∙ z)
 
 pub apart_nets : {l c t : ℕ} → Apart (l ∷ c ∷ t ∷ []) → ThreeNets l c t
@@ -57,6 +59,7 @@ same_or_fourth {l} {c} {t} {e} a = (λ h. to (apart_nets h.0) h.1 (ℕ_discrete 
     to f n (no d) = inr (Apart.more fourth a)
       where
         fourth : (m : ℕ) → Mem m (l ∷ c ∷ t ∷ []) → net m ≢ net e
+        fourth m (Memᴰ.tail (Memᴰ.tail (Memᴰ.tail x14))) z = elim x14 [ ]
         fourth m (Memᴰ.head q) z = f.tl (sym z ∙ ap net q)
         fourth m (Memᴰ.tail (Memᴰ.head q)) z = f.tc (sym z ∙ ap net q)
         fourth m (Memᴰ.tail (Memᴰ.tail (Memᴰ.head q))) z = d (sym z ∙ ap net q)

@@ -102,6 +102,7 @@ mask_more l ls b t c h = go t
 
 signed_mask : (ls : List ℕ) (b : Bool) (c : List ℕ) → Memᴰ c (signings ls b) → Mask ls b c
 unfolding signings masked mask_odd
+signed_mask [] false c (Memᴰ.tail x6) = elim x6 [ ]
 signed_mask [] false c (Memᴰ.head e) = record { mask = 0; below = omega arith; odd = refl; makes = sym e }
 signed_mask [] true c k = elim k [ ]
 signed_mask (l ∷ ls) b c k = go (Memᴰ.append_cases (map (λ d. l ∷ d) (signings ls b)) k) (signed_mask ls)

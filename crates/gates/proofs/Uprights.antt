@@ -56,6 +56,7 @@ lowest : (x : ℕ) (xs : List ℕ) → Lowest (x ∷ xs)
 lowest x [] = record { it = x; listed = Memᴰ.head refl; low = one }
   where
     one : (y : ℕ) → Mem y (x ∷ []) → net x ≤ net y
+    one y (Memᴰ.tail x6) = elim x6 [ ]
     one y (Memᴰ.head e) = rw e (omega arith)
 lowest x (z ∷ zs) = go (lowest z zs)
   where

@@ -37,6 +37,7 @@ apart_clause (l ∷ ls) (more n d) t =
     go m k (inr e) = t (record { lit = l; plain = in_first; inverse = Memᴰ.tail (Memᴰ.cast (sym e) k) })
 
 pub apart_once : {ls : List ℕ} → Apart ls → (a b : ℕ) → Mem a ls → Mem b ls → net a ≡ net b → a ≡ b
+apart_once Apart.empty a b x7 _ e = elim x7 [ ]
 apart_once (Apart.more {l = l} h r) a b (Memᴰ.head p) (Memᴰ.head q) e = p ∙ sym q
 apart_once (Apart.more {l = l} h r) a b (Memᴰ.head p) (Memᴰ.tail k) e = absurd (h b k (sym e ∙ ap net p))
 apart_once (Apart.more {l = l} h r) a b (Memᴰ.tail k) (Memᴰ.head q) e = absurd (h a k (e ∙ ap net q))

@@ -58,6 +58,7 @@ chosen l ls c b d n h =
 
 pub signed_choice : (ls : List ℕ) → Distinct ls → (b : Bool) (c : List ℕ) → Memᴰ c (signings ls b) → Choice ls b c
 unfolding signings
+signed_choice [] n false c (Memᴰ.tail x7) = elim x7 [ ]
 signed_choice [] n false c (Memᴰ.head e) = record { signs = λ x. false; count = refl; makes = e }
 signed_choice [] n true c k = elim k [ ]
 signed_choice (l ∷ ls) (more n r) b c k = go (Memᴰ.append_cases (map (λ d. l ∷ d) (signings ls b)) k) (signed_choice ls r)

@@ -1,5 +1,7 @@
 // The gates found in a clause list.
 
+#![tactic(auto)]
+
 mod and;
 pub mod counts;
 pub mod finder;

@@ -2,7 +2,7 @@
 -- Assumes nothing.
 use mathlib.Core.Path.{◌≡◌, refl, sym, ◌∙◌, ap}
 use mathlib.Core.Bool.{true}
-use mathlib.Core.List.{List, ◌∷◌, map, Memᴰ}
+use mathlib.Core.List.{List, [], ◌∷◌, map, Memᴰ}
 use Prim.Native.Nat.{suc}
 use Rattle.clauses.specs.Lists.{any, all, keep, each, also, only, from, same_list, picks, choose}
 use Rattle.clauses.specs.Listing.{mem, within, same_set, tautology, present, literals, clause_sets, Fits, fits}
@@ -26,6 +26,7 @@ table_fits = refl
 
 -- where two functions agree on a list, they agree on each of its elements
 map_agree : {A B : Type 0} (f g : A → B) {x : A} (l : List A) → map f l ≡ map g l → Memᴰ x l → f x ≡ g x
+map_agree {A = A} {B = B} f g [] e x3 = elim x3 [ ]
 map_agree f g (y ∷ l) e (Memᴰ.head q) = let z : f y ≡ g y = cc in ap f q ∙ z ∙ sym (ap g q)
 map_agree f g (y ∷ l) e (Memᴰ.tail k) = let z : map f l ≡ map g l = cc in map_agree f g l z k
 

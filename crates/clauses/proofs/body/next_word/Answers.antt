@@ -3,7 +3,6 @@ use Rattle.clauses.specs.declared.text.Class.TheVariants.{Inline}
 use Prim.Native.Nat.{◌+◌, ◌<◌, ◌≤◌, ℕ}
 use Rattle.clauses.proofs.Runs.{run_goes_on, run_within}
 use Rattle.clauses.specs.Bytes.{front, letter_c}
-use Rattle.clauses.specs.Listing.{within}
 use Rattle.clauses.specs.Scanning.{is_in, starts_line, words_from}
 use borrow.Author.Tests.{not-false, not-true}
 use lib.ListN.{drop, get_or, length}

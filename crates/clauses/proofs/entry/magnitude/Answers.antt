@@ -26,19 +26,19 @@ pub overflow_cast-result-else-x-ge0 : goal.overflow_cast-result-else-x-ge0
 overflow_cast-result-else-x-ge0 c =
     let below : le_z (pos 0) c.args.x ≡ false = rw (to_z-of_z w32 _ c.ranges.x) at c.if-x-ge0.false in
     let reflected : to_z w32 (of_z w32 (negsuc 0 -ℤ to_z w32 (of_z w32 c.args.x))) ≡ pos (mag c.args.x) = rw (to_z-of_z w32 _ c.ranges.x, below_zero _ below)
-        (to_z-of_z w32 _ (record { sfits = c.ranges.x.sfits })) in
+    (to_z-of_z w32 _ (record { sfits = c.ranges.x.sfits })) in
     rw reflected (tt, record { fits = omega (arith, c.ranges.x.sfits) })
 
 pub overflow_add-result : goal.overflow_add-result
 overflow_add-result c =
     let below : le_z (pos 0) c.args.x ≡ false = rw (to_z-of_z w32 _ c.ranges.x) at c.if-x-ge0.false in
     let reflected : to_z w32 (of_z w32 (negsuc 0 -ℤ to_z w32 (of_z w32 c.args.x))) ≡ pos (mag c.args.x) = rw (to_z-of_z w32 _ c.ranges.x, below_zero _ below)
-        (to_z-of_z w32 _ (record { sfits = c.ranges.x.sfits })) in
+    (to_z-of_z w32 _ (record { sfits = c.ranges.x.sfits })) in
     rw reflected (record { fits = omega (arith, c.ranges.x.sfits) })
 
 pub returns-else-x-ge0 : goal.returns-else-x-ge0
 returns-else-x-ge0 c =
     let below : le_z (pos 0) c.args.x ≡ false = rw (to_z-of_z w32 _ c.ranges.x) at c.if-x-ge0.false in
     let reflected : to_z w32 (of_z w32 (negsuc 0 -ℤ to_z w32 (of_z w32 c.args.x))) ≡ pos (mag c.args.x) = rw (to_z-of_z w32 _ c.ranges.x, below_zero _ below)
-        (to_z-of_z w32 _ (record { sfits = c.ranges.x.sfits })) in
+    (to_z-of_z w32 _ (record { sfits = c.ranges.x.sfits })) in
     rw reflected (magnitude_below_zero c.args.x below)

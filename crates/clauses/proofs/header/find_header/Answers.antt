@@ -36,8 +36,7 @@ returns-in_default c =
     (ap header_line (sym line) ∙ header_none _ (sym c.read_header.ensures ∙ c.in_default.is))
 
 pub returns-then-not-is_passed : goal.returns-then-not-is_passed
-returns-then-not-is_passed c =
-    (
+returns-then-not-is_passed c = (
   following is_lf c.loop-at.at (drop c.loop-at.at c.args.text.now),
   c.loop-at.invariant.0
       ∙ heading_sized _ c.args.text.now c.loop-at.at _ not-passed (ap header_line (sym line) ∙ header_some _ _ _ (sym c.read_header.ensures ∙ c.in-Sized.is)),
@@ -80,13 +79,12 @@ pub loop-at-preserved : goal.loop-at-preserved
 loop-at-preserved c =
     let line : take (c.run_end-end.result - c.loop-at.at) (drop c.loop-at.at c.args.text.now) ≡ front (lacks is_lf) (drop c.loop-at.at c.args.text.now) = line_part c.args.text.now c.loop-at.at c.run_end-end.result c.run_end-end.ensures in
     let room : length (front (lacks is_lf) (drop c.loop-at.at c.args.text.now)) ≤ length (drop c.loop-at.at c.args.text.now) = front_length (lacks is_lf) (drop c.loop-at.at c.args.text.now) in
-    let end-within : c.run_end-end.result ≤ length c.args.text.now = omega (arith, room, c.run_end-end.ensures, length-drop c.loop-at.at c.args.text.now, c.loop-at-test.true) in
-    (
-  c.loop-at.invariant.0
-      ∙ heading_passed _ c.args.text.now c.loop-at.at (ap is_passed (sym line) ∙ sym c.is_passed.ensures ∙ not-false _ c.if-not-is_passed.false-raw)
-      ∙ heading_behind c.args.text.now c.loop-at.at c.run_end-end.result c.run_end-end.ensures _,
-  omega (arith, end-within),
-)
+    let end-within : c.run_end-end.result ≤ length c.args.text.now = omega (arith, room, c.run_end-end.ensures, length-drop c.loop-at.at c.args.text.now, c.loop-at-test.true) in (
+      c.loop-at.invariant.0
+          ∙ heading_passed _ c.args.text.now c.loop-at.at (ap is_passed (sym line) ∙ sym c.is_passed.ensures ∙ not-false _ c.if-not-is_passed.false-raw)
+          ∙ heading_behind c.args.text.now c.loop-at.at c.run_end-end.result c.run_end-end.ensures _,
+      omega (arith, end-within),
+    )
 
 pub returns : goal.returns
 returns c = c.loop-at.invariant.0 ∙ heading_missing (length c.args.text.now) c.args.text.now c.loop-at.at c.loop-at-test.false

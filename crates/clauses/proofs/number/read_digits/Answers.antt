@@ -3,7 +3,6 @@ use Rattle.clauses.proofs.Runs.{run_inside}
 use Rattle.clauses.proofs.Words.{digits_led_by_zero, digits_none, digits_read, digits_too_many}
 use Rattle.clauses.specs.Bytes.{is_digit}
 use lib.ListN.{length}
-use mathlib.Core.Logic.{⊎_elim}
 use mathlib.Core.Path.{sym}
 use native.Mathlib.Omega.{arith}
 use Rattle.clauses.proofs.number.read_digits.Goals as goal

@@ -15,11 +15,11 @@ overflow_add-result c = record { fits = omega (arith, c.decimal_length-digits.en
 pub returns-then-is_negative : goal.returns-then-is_negative
 returns-then-is_negative c =
     let with-minus : signed_decimal c.args.x ≡ minus ∷ decimal c.magnitude.result = let start = c in
-        signed_minus start.args.x _ (magnitude_back start.args.x start.ranges.x.sfits c.magnitude.ensures) _ (sign_back start.args.x start.ranges.x.sfits c.is_negative.ensures) c.if-is_negative.true in
+    signed_minus start.args.x _ (magnitude_back start.args.x start.ranges.x.sfits c.magnitude.ensures) _ (sign_back start.args.x start.ranges.x.sfits c.is_negative.ensures) c.if-is_negative.true in
     omega (arith, c.decimal_length-digits.ensures, ap length with-minus)
 
 pub returns : goal.returns
 returns c =
     let plain : signed_decimal c.args.x ≡ decimal c.magnitude.result = let start = c in
-        signed_plain start.args.x _ (magnitude_back start.args.x start.ranges.x.sfits c.magnitude.ensures) _ (sign_back start.args.x start.ranges.x.sfits c.is_negative.ensures) c.if-is_negative.false in
+    signed_plain start.args.x _ (magnitude_back start.args.x start.ranges.x.sfits c.magnitude.ensures) _ (sign_back start.args.x start.ranges.x.sfits c.is_negative.ensures) c.if-is_negative.false in
     omega (arith, c.decimal_length-digits.ensures, ap length plain)

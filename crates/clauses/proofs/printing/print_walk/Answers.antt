@@ -1,5 +1,4 @@
-use Rattle.std.proofs.Common.{◌≡◌, ◌∙◌, ap, arith, refl, ℤ, List, length}
-use Rattle.clauses.specs.Printing.{row_text}
+use Rattle.std.proofs.Common.{arith, refl}
 use Rattle.clauses.proofs.Signed.{read_back}
 use Rattle.clauses.proofs.Texts.{row_none, row_next, row_room}
 use Rattle.clauses.proofs.Writes.{wrote_none, wrote_then}

@@ -8,9 +8,12 @@ use Rattle.clauses.proofs.reading.read_body.Goals as goal
 pub returns-in-Refused : goal.returns-in-Refused
 unfolding scanned_from
 returns-in-Refused c =
-    let s = c in record { value = (refused_is s.args.row.now _
-    (body_refused s.args.row.now _ s.args.v ((words_from (s.args.text.now) s.args.from)) _ (sym c.scan_numbers.ensures.value ∙ c.in-Refused.is))).0; row_after = (refused_is s.args.row.now _
-    (body_refused s.args.row.now _ s.args.v ((words_from (s.args.text.now) s.args.from)) _ (sym c.scan_numbers.ensures.value ∙ c.in-Refused.is))).1 }
+    let s = c in record {
+      value = (refused_is s.args.row.now _
+          (body_refused s.args.row.now _ s.args.v ((words_from (s.args.text.now) s.args.from)) _ (sym c.scan_numbers.ensures.value ∙ c.in-Refused.is))).0;
+      row_after = (refused_is s.args.row.now _
+          (body_refused s.args.row.now _ s.args.v ((words_from (s.args.text.now) s.args.from)) _ (sym c.scan_numbers.ensures.value ∙ c.in-Refused.is))).1;
+    }
 
 pub returns-in-Numbers : goal.returns-in-Numbers
 unfolding scanned_from

@@ -1,4 +1,3 @@
-
 use Rattle.clauses.proofs.refusal.place.Goals as goal
 
 pub returns-in-TextTooLong : goal.returns-in-TextTooLong

@@ -1,4 +1,3 @@
-
 use Rattle.clauses.proofs.sign.flipped.Goals as goal
 
 pub returns-then-minus : goal.returns-then-minus

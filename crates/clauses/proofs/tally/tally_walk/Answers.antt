@@ -1,5 +1,4 @@
-use Rattle.std.proofs.Common.{◌≡◌, ◌∙◌, ap, arith, refl, nat_abs, ℤ, take}
-use Rattle.clauses.specs.Tally.{tally_of}
+use Rattle.std.proofs.Common.{◌∙◌, arith, refl, take}
 use Rattle.clauses.proofs.Signed.{read_back}
 use Rattle.clauses.proofs.Tallies.{tally_none, tally_zeros, tally_entries, tally_next, tally_full}
 use Rattle.clauses.proofs.Walks.{stepped}

@@ -1,4 +1,3 @@
-
 use Rattle.clauses.proofs.text.is_in.Goals as goal
 
 pub returns-in-Digit : goal.returns-in-Digit

@@ -1,4 +1,4 @@
-use Rattle.std.proofs.Common.{arith, ◌/◌}
+use Rattle.std.proofs.Common.{arith}
 use Rattle.clauses.proofs.Decimals.{decimal_digit, decimal_more, length_digit, length_more}
 use Rattle.clauses.proofs.Writes.{wrote_then}
 use Rattle.clauses.proofs.writing.+put_decimal.Goals as goal
