@@ -4,7 +4,7 @@ use mathlib.Core.Path.{◌≡◌, refl, sym, ◌∙◌, ap, subst, subst⁻¹}
 use mathlib.Core.Logic.{◌≢◌, ◌⊎◌, inl, inr, ⊎_elim}
 use mathlib.Core.Bool.{Bool, true, false, cond, not, ◌||◌, true≢false}
 use mathlib.Core.List.Memᴰ
-use mathlib.Core.List.{List, [], ◌∷◌, ◌++◌, map, map_append, append_assoc, append-nil, Memᴰ}
+use mathlib.Core.List.{List, [], ◌∷◌, ◌++◌, map, map-append, append_assoc, append-nil, Memᴰ}
 use Prim.Native.Nat.{ℕ, zero, suc, ◌+◌, ◌*◌, ◌%◌, ◌≤◌}
 use native.Mathlib.Omega.{arith}
 use borrow.Author.Tests.{le-ltb, eq-eqb, ne_eqb, eqb-true}
@@ -38,7 +38,7 @@ row_cons c cs = append_assoc (map entry_of c) (pos 0 ∷ []) (literal_row cs)
 
 simplified_append : (cs ds : List (List ℕ)) → simplified (cs ++ ds) ≡ simplified cs ++ simplified ds
 unfolding simplified
-simplified_append cs ds = rw keep_append (map_append without_false (keep (λ c. not (is_left_out c)) cs) (keep (λ c. not (is_left_out c)) ds))
+simplified_append cs ds = rw keep_append (map-append without_false (keep (λ c. not (is_left_out c)) cs) (keep (λ c. not (is_left_out c)) ds))
 
 pub made_append : (cs ds : List (List ℕ)) → made (cs ++ ds) ≡ made cs ++ made ds
 unfolding made literal_row

@@ -1,6 +1,6 @@
 -- What reading comes to, by what the functions say of the lines.
 -- Assumes nothing.
-use mathlib.Core.Path.{◌≡◌, refl, sym, ◌∙◌, ap}
+use mathlib.Core.Path.{◌≡◌, refl, sym, ◌∙◌, ap, subst⁻¹}
 use mathlib.Core.Logic.{◌≢◌}
 use mathlib.Core.Bool.{true, false}
 use mathlib.Core.List.{List, [], ◌∷◌}
@@ -13,7 +13,7 @@ use lib.ListN.{length}
 use lib.Seq.{sets}
 use Rattle.clauses.specs.Bytes.{lf}
 use Rattle.clauses.specs.Limit.{max_text}
-use Rattle.clauses.specs.Reading.{Outcome, refused}
+use Rattle.clauses.specs.Reading.{Outcome, refused, accepted}
 use Rattle.clauses.specs.Refusal.{decide, zeros}
 use Rattle.clauses.specs.Scanning.{Keeps, read_numbers}
 use Rattle.clauses.specs.Tally.{tally_of}
@@ -28,7 +28,7 @@ use Rattle.aiger.specs.declared.ands.Scan.{Scan}
 use Rattle.aiger.specs.declared.ands.Scan.TheVariants as S
 use Rattle.aiger.specs.Circuit.{Circuit, circuit_clauses}
 use Rattle.aiger.specs.Line.{header_of, literal_at, Lines, said, faulty, input_lines, and_lines, circuit_from, output_lines, circuit_lines, bad_output}
-use Rattle.aiger.specs.Reading.{is_placed, placed, is_header_bad, bad_count, faulty_at, the_header, the_circuit, sizes_of, entries_of, circuit_tests, line_tests, lines_of, reading_tests, circuit_of, reading}
+use Rattle.aiger.specs.Reading.{place_test, header_bad, is_placed, placed, is_header_bad, bad_count, faulty_at, the_header, the_circuit, sizes_of, entries_of, circuit_tests, line_tests, lines_of, reading_tests, circuit_of, reading}
 use Rattle.aiger.specs.Scanning.{as_heading, clause_entries, and_entries, Room, Stored, entries, or_set, ands_result, as_scan, AndsRead, read_lines}
 use Rattle.aiger.proofs.AndLines.{tally_length}
 use Rattle.aiger.proofs.CircuitLines.{and_lines_few}
@@ -236,6 +236,20 @@ module _ (text : List ℕ) (row : List ℤ) where
           unfolding reading reading_tests bad_count the_header is_placed placed decide
           outputs_wrong n = rw (le-ltb _ _ short, e, fine, eq-eqb _ _ none-there, ne_eqb _ _ n)
 
+          lines_from : h.outputs ≡ 1 → (o : Option Header) → o ≡ some h
+              → read_lines row (circuit_lines h text)
+              ≡ decide (refused row)
+              (accepted row (sizes_of (the_circuit (circuit_lines (the_header o) text))) (entries_of (the_circuit (circuit_lines (the_header o) text))))
+              (header_bad o ∷ place_test LatchesOrOutputs (bad_count (the_header o)) ∷ line_tests row (circuit_lines (the_header o) text))
+          unfolding bad_count the_header read_lines is_placed placed decide
+          lines_from u o k =
+              subst⁻¹
+              (λ (o : Option Header). read_lines row (circuit_lines h text)
+                ≡ decide (refused row)
+                (accepted row (sizes_of (the_circuit (circuit_lines (the_header o) text))) (entries_of (the_circuit (circuit_lines (the_header o) text))))
+                (header_bad o ∷ place_test LatchesOrOutputs (bad_count (the_header o)) ∷ line_tests row (circuit_lines (the_header o) text)))
+              k (rw (fine, eq-eqb _ _ none-there, eq-eqb _ _ u))
+
           pub lines_decide : h.outputs ≡ 1 → read_lines row (circuit_lines h text) ≡ reading text row
-          unfolding reading reading_tests bad_count the_header circuit_of lines_of read_lines is_placed placed decide
-          lines_decide o = rw (le-ltb _ _ short, e, fine, eq-eqb _ _ none-there, eq-eqb _ _ o)
+          unfolding reading reading_tests circuit_of lines_of decide
+          lines_decide o = rw (le-ltb _ _ short) (lines_from o (header_of text) e)

@@ -23,6 +23,7 @@ at_mem (x ∷ l) zero h = Memᴰ.head refl
 at_mem (x ∷ l) (suc i) h = Memᴰ.tail (at_mem l i (omega arith))
 
 mem_at : (x : ℕ) (l : List ℕ) → Mem x l → (i : ℕ) × (i < length l) × (get_or l i 0 ≡ x)
+mem_at x [] x'' = elim x'' [ ]
 mem_at x (y ∷ l) (Memᴰ.head e) = (0, omega arith, sym e)
 mem_at x (y ∷ l) (Memᴰ.tail m) = let t = mem_at x l m in (suc t.0, omega (arith, t.1), t.2)
 

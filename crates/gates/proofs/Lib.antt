@@ -37,5 +37,3 @@ pub mod Pairs
 pub mod Marked
 pub mod Found
 pub mod CountBounds
-pub mod Increments
-pub mod Lenders

@@ -1,0 +1,7 @@
+use mathlib.Core.Path.{refl}
+use Rattle.gates.specs.Found.{is_select_next}
+use Rattle.gates.proofs.mark_bits.is_select_next.Goals as goal
+
+pub returns : goal.returns
+unfolding is_select_next
+returns c = refl

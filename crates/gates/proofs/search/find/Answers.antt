@@ -1,0 +1,101 @@
+use mathlib.Core.Path.{◌≡◌, sym, ◌∙◌}
+use mathlib.Core.Logic.{⊎_elim}
+use mathlib.Core.Bool.{true, false}
+use Prim.Native.Nat.{◌+◌, ◌-◌, ◌<◌}
+use native.Mathlib.Omega.{arith}
+use lib.ListN.{length, get_or}
+use borrow.Author.Tests.{not-true, not-false}
+use Rattle.clauses.specs.Listing.{within, same_set}
+use Rattle.clauses.specs.Row.{clause_at}
+use Rattle.gates.specs.Index.{buckets}
+use Rattle.gates.specs.Mask.{masked}
+use Rattle.gates.proofs.Buckets.{bucket_small}
+use Rattle.gates.proofs.ClauseChains.{Searching, searching_first, searching_next, searching_falls}
+use Rattle.gates.proofs.Places.{nowhere, there, ended_at, ended_nothing}
+use Rattle.gates.proofs.Masks.{masked_length}
+use Rattle.gates.proofs.Walks.{all_end, all_no, all_on, same_no}
+use Rattle.gates.proofs.Queries.{same_ended, same_longer}
+use Rattle.gates.proofs.search.find.Goals as goal
+
+pub offset_bounds-index-bucket_of : goal.offset_bounds-index-bucket_of
+offset_bounds-index-bucket_of c =
+    let bucket : c.bucket_of.result < buckets = omega (arith, c.bucket_of.ensures, bucket_small (masked c.args.mask c.args.q.now)) in
+    omega (arith, bucket)
+
+pub bounds-index-bucket_of : goal.bounds-index-bucket_of
+bounds-index-bucket_of c =
+    let bucket : c.bucket_of.result < buckets = omega (arith, c.bucket_of.ensures, bucket_small (masked c.args.mask c.args.q.now)) in
+    omega (arith, bucket, c.requires.indexed.room)
+
+pub overflow_cast-b : goal.overflow_cast-b
+overflow_cast-b c = omega (arith, c.shared_slice_known-4-1.given c.bucket_of.result)
+
+pub clauses-init : goal.clauses-init
+clauses-init c = searching_first c.requires.indexed c.bucket_of.ensures
+
+pub overflow_add-b : goal.overflow_add-b
+overflow_add-b c = omega (arith, c.if-n-b.false, c.requires.indexed.room)
+
+pub offset_bounds-index-here : goal.offset_bounds-index-here
+offset_bounds-index-here c = omega (arith, c.if-n-b.false, c.requires.indexed.room, c.well_formed)
+
+pub bounds-index-here : goal.bounds-index-here
+bounds-index-here c = omega (arith, c.if-n-b.false, c.requires.indexed.room)
+
+pub overflow_cast-b-in-clauses : goal.overflow_cast-b-in-clauses
+overflow_cast-b-in-clauses c = omega (arith, c.shared_slice_known-in-clauses-1.given (buckets + c.clauses.b))
+
+pub overflow_add-here : goal.overflow_add-here
+overflow_add-here c = omega (arith, c.if-n-b.false, c.well_formed)
+
+pub clauses-smaller-then-literal-ne0 : goal.clauses-smaller-then-literal-ne0
+clauses-smaller-then-literal-ne0 c =
+    let falls : length c.args.codes.now - get_or c.args.index.now (buckets + c.clauses.b) 0 < length c.args.codes.now - c.clauses.b = searching_falls c.requires.indexed c.clauses.invariant (omega (arith, c.if-n-b.false)) in
+    falls
+
+pub clauses-preserved-then-literal-ne0 : goal.clauses-preserved-then-literal-ne0
+clauses-preserved-then-literal-ne0 c =
+    let goes_on : same_set (masked c.args.mask c.args.q.now) (clause_at c.args.codes.now c.clauses.b) ≡ false → Searching c.args.codes.now (masked c.args.mask c.args.q.now) (get_or c.args.index.now (buckets + c.clauses.b) 0) = λ e. searching_next c.requires.indexed c.clauses.invariant (omega (arith, c.if-n-b.false)) e in
+    let start = c in
+    goes_on
+    (same_longer _ _ _ _ (masked_length _ _) start.requires.once start.requires.normal (c.clauses.invariant.passed.start (omega (arith, c.if-n-b.false))) (λ e. c.if-literal-ne0.true (c.literal.ensures ∙ e)))
+
+pub clauses-smaller : goal.clauses-smaller
+clauses-smaller c =
+    let falls : length c.args.codes.now - get_or c.args.index.now (buckets + c.clauses.b) 0 < length c.args.codes.now - c.clauses.b = searching_falls c.requires.indexed c.clauses.invariant (omega (arith, c.if-n-b.false)) in
+    falls
+
+pub clauses-preserved : goal.clauses-preserved
+clauses-preserved c =
+    let goes_on : same_set (masked c.args.mask c.args.q.now) (clause_at c.args.codes.now c.clauses.b) ≡ false → Searching c.args.codes.now (masked c.args.mask c.args.q.now) (get_or c.args.index.now (buckets + c.clauses.b) 0) = λ e. searching_next c.requires.indexed c.clauses.invariant (omega (arith, c.if-n-b.false)) e in
+    let step = c.literals in
+    goes_on
+    (same_no _ _
+    (step.invariant ∙ all_no c.args.q.now step.i step.m _ c.literals-test.true (rw c.flipped.ensures at (sym c.holds.ensures ∙ not-true _ c.if-not-holds.true-raw))))
+
+pub literals-preserved : goal.literals-preserved
+literals-preserved c =
+    let step = c.literals in
+    step.invariant ∙ all_on c.args.q.now step.i step.m _ c.literals-test.true (rw c.flipped.ensures at (sym c.holds.ensures ∙ not-false _ c.if-not-holds.false-raw))
+
+pub returns-then-found-n : goal.returns-then-found-n
+returns-then-found-n c =
+    let all_there : within (masked c.args.mask c.args.q.now) (clause_at c.args.codes.now c.clauses.b) ≡ true = c.literals.invariant ∙ all_end c.args.q.now c.literals.i c.literals.m _ c.literals-test.false in
+    ended_at ((let turn = c.clauses in
+    ⊎_elim
+    (λ w. nowhere turn.invariant.passed w.0.taken w.2)
+    (λ w.
+    let left : tie.After-literals invariant-literals decreases-literals invariant-clauses decreases-clauses = record { before = record { before = record { before = record { before = record { before = record { before = c; if1 = w.0 }; shared-slice-known5 = w.1 }; literal = w.2 }; if2 = w.3 }; literals = w.4 }; literals-test = w.5 } in
+    rw w.7 (there turn.invariant.passed (omega (arith, w.0.left)) (same_ended _ _ _ _ (masked_length _ _) c.requires.once all_there (sym w.2.ensures ∙ w.3.left))))
+    c.if-n-b.branch)) c.if-found-n.true
+
+pub returns : goal.returns
+returns c =
+    let all_there : within (masked c.args.mask c.args.q.now) (clause_at c.args.codes.now c.clauses.b) ≡ true = c.literals.invariant ∙ all_end c.args.q.now c.literals.i c.literals.m _ c.literals-test.false in
+    ended_nothing ((let turn = c.clauses in
+    ⊎_elim
+    (λ w. nowhere turn.invariant.passed w.0.taken w.2)
+    (λ w.
+    let left : tie.After-literals invariant-literals decreases-literals invariant-clauses decreases-clauses = record { before = record { before = record { before = record { before = record { before = record { before = c; if1 = w.0 }; shared-slice-known5 = w.1 }; literal = w.2 }; if2 = w.3 }; literals = w.4 }; literals-test = w.5 } in
+    rw w.7 (there turn.invariant.passed (omega (arith, w.0.left)) (same_ended _ _ _ _ (masked_length _ _) c.requires.once all_there (sym w.2.ensures ∙ w.3.left))))
+    c.if-n-b.branch)) c.if-found-n.false
