@@ -20,7 +20,7 @@ slice_bounds-mark_gates-end c =
 
 pub slice_bounds-mark_gates-end-2 : goal.slice_bounds-mark_gates-end-2
 slice_bounds-mark_gates-end-2 c =
-    let part : take c.prepare-n.result c.prepare-n.new.1.0 ≡ normal_row c.args.row.now = ap (λ (n : ℕ). take n c.prepare-n.new.1.0) c.prepare-n.ensures.value ∙ c.prepare-n.ensures.codes_after in
+    let part : take c.prepare-n.result c.prepare-n.new.codes ≡ normal_row c.args.row.now = ap (λ (n : ℕ). take n c.prepare-n.new.codes) c.prepare-n.ensures.value ∙ c.prepare-n.ensures.codes_after in
     c.prepare-n.ensures.value ∙ sym (ap length part)
 
 pub slice_bounds-mark_gates-end-10 : goal.slice_bounds-mark_gates-end-10
@@ -36,7 +36,7 @@ slice_bounds-mark_gates-end-11 c =
 pub mark_gates-counts-requires : goal.mark_gates-counts-requires
 mark_gates-counts-requires c =
     let fits : c.prepare-n.result ≤ length c.args.row.now = omega (arith, c.prepare-n.ensures.value, normal_length c.args.row.now c.requires.row_value) in
-    let part : take c.prepare-n.result c.prepare-n.new.1.0 ≡ normal_row c.args.row.now = ap (λ (n : ℕ). take n c.prepare-n.new.1.0) c.prepare-n.ensures.value ∙ c.prepare-n.ensures.codes_after in
+    let part : take c.prepare-n.result c.prepare-n.new.codes ≡ normal_row c.args.row.now = ap (λ (n : ℕ). take n c.prepare-n.new.codes) c.prepare-n.ensures.value ∙ c.prepare-n.ensures.codes_after in
     let start = c in let row = start.args.row.now in let short = normal_length row start.requires.row_value in rw part (record { indexed = c.prepare-n.ensures.indexed; normal = normal-row row start.requires.row_len_bound start.requires.small_entries start.requires.row_value; room = record {
             literals = omega (arith, length-replicate {A = ℕ} 2050 0);
             inverses = omega (arith, length-replicate {A = ℕ} 2050 0);
@@ -50,5 +50,5 @@ mark_gates-counts-requires c =
 pub returns : goal.returns
 returns c =
     let fits : c.prepare-n.result ≤ length c.args.row.now = omega (arith, c.prepare-n.ensures.value, normal_length c.args.row.now c.requires.row_value) in
-    let part : take c.prepare-n.result c.prepare-n.new.1.0 ≡ normal_row c.args.row.now = ap (λ (n : ℕ). take n c.prepare-n.new.1.0) c.prepare-n.ensures.value ∙ c.prepare-n.ensures.codes_after in
-    let start = c in let row = start.args.row.now in let n = c.prepare-n.ensures.value in let size = c.mark_gates-counts.auto.marks ∙ length-take-le _ _ (omega (arith, fits, start.requires.row_in_bounds_2)) ∙ n in let found = (rw part at c.mark_gates-counts.ensures) (clauses_of row) (normal_present row) in record { entries_value = n; codes_after = c.prepare-n.ensures.codes_after; found = rw (take_at _ _ (length (normal_row row)) size) found.0; marks_unchanged = drop_at c.mark_gates-counts.new.1.1.1.1.1.1.1.1.0 _ (length (normal_row row)) size ∙ ap (λ (k : ℕ). drop k start.args.marks.now) n; are_counts = found.1 }
+    let part : take c.prepare-n.result c.prepare-n.new.codes ≡ normal_row c.args.row.now = ap (λ (n : ℕ). take n c.prepare-n.new.codes) c.prepare-n.ensures.value ∙ c.prepare-n.ensures.codes_after in
+    let start = c in let row = start.args.row.now in let n = c.prepare-n.ensures.value in let size = c.mark_gates-counts.auto.marks ∙ length-take-le _ _ (omega (arith, fits, start.requires.row_in_bounds_2)) ∙ n in let found = (rw part at c.mark_gates-counts.ensures) (clauses_of row) (normal_present row) in record { entries_value = n; codes_after = c.prepare-n.ensures.codes_after; found = rw (take_at _ _ (length (normal_row row)) size) found.0; marks_unchanged = drop_at c.mark_gates-counts.new.marks _ (length (normal_row row)) size ∙ ap (λ (k : ℕ). drop k start.args.marks.now) n; are_counts = found.1 }

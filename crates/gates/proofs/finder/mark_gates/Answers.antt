@@ -34,6 +34,6 @@ returns c =
     let sides = c.mark_ites-all.ensures in
     let pairs = c.mark_pairs.ensures in
     λ cs same. (
-      gates_found start.requires.normal clauses.ensures.marking_2 sides.1.1 pairs same (clauses.auto.marks ∙ c.clear.auto.marks ∙ c.requires.marks_len),
-      rw (sides.0.0, sides.0.1, sides.1.0) (gates_counted start.requires.normal clauses.ensures.marking_2 sides.1.1 pairs same),
+      gates_found start.requires.normal clauses.ensures.marking_2 sides.sided pairs same (clauses.auto.marks ∙ c.clear.auto.marks ∙ c.requires.marks_len),
+      rw (sides.ands_value.0, sides.ands_value.1, sides.ites_value_2) (gates_counted start.requires.normal clauses.ensures.marking_2 sides.sided pairs same),
     )

@@ -29,7 +29,7 @@ offset_bounds-index-h c =
 
 pub bounds-index-h : goal.bounds-index-h
 bounds-index-h c =
-    let room : buckets + length c.args.codes.now ≤ length c.fill.new.0 = let start = c in
+    let room : buckets + length c.args.codes.now ≤ length c.fill.new.row = let start = c in
         omega (arith, ap length c.fill.ensures, length-replicate (length start.args.index.now) (length start.args.codes.now), start.requires.codes_in_bounds) in
     let bucket : c.bucket_at-h.result < buckets = omega (arith, c.bucket_at-h.ensures, bucket_small (clause_at c.args.codes.now (c.loop-b.b - 1))) in
     omega (arith, bucket, room, c.loop-b.invariant.room)
@@ -42,7 +42,7 @@ offset_bounds-index-b c = omega (arith, c.loop-b.invariant.inside, c.requires.no
 
 pub bounds-index-b : goal.bounds-index-b
 bounds-index-b c =
-    let room : buckets + length c.args.codes.now ≤ length c.fill.new.0 = let start = c in
+    let room : buckets + length c.args.codes.now ≤ length c.fill.new.row = let start = c in
         omega (arith, ap length c.fill.ensures, length-replicate (length start.args.index.now) (length start.args.codes.now), start.requires.codes_in_bounds) in
     let turn = c.loop-b in
     omega (arith, turn.invariant.inside, c.loop-b-test.true, room, turn.invariant.room)
@@ -57,14 +57,14 @@ offset_bounds-index-h-then-is_start c =
 
 pub bounds-index-h-then-is_start : goal.bounds-index-h-then-is_start
 bounds-index-h-then-is_start c =
-    let room : buckets + length c.args.codes.now ≤ length c.fill.new.0 = let start = c in
+    let room : buckets + length c.args.codes.now ≤ length c.fill.new.row = let start = c in
         omega (arith, ap length c.fill.ensures, length-replicate (length start.args.index.now) (length start.args.codes.now), start.requires.codes_in_bounds) in
     let bucket : c.bucket_at-h.result < buckets = omega (arith, c.bucket_at-h.ensures, bucket_small (clause_at c.args.codes.now (c.loop-b.b - 1))) in
     rw length-set (omega (arith, bucket, room, c.loop-b.invariant.room))
 
 pub loop-b-preserved-then-is_start : goal.loop-b-preserved-then-is_start
 loop-b-preserved-then-is_start c =
-    let room : buckets + length c.args.codes.now ≤ length c.fill.new.0 = let start = c in
+    let room : buckets + length c.args.codes.now ≤ length c.fill.new.row = let start = c in
         omega (arith, ap length c.fill.ensures, length-replicate (length start.args.index.now) (length start.args.codes.now), start.requires.codes_in_bounds) in
     chained_put ((let z : c.loop-b.b - 1 + 1 ≡ c.loop-b.b = omega (arith, c.loop-b-test.true) in
     rw z c.loop-b.invariant)) ((let turn = c.loop-b in
@@ -81,7 +81,7 @@ shape_of-index c = c.loop-b.invariant.room ∙ c.fill.auto.row
 
 pub returns : goal.returns
 returns c =
-    let room : buckets + length c.args.codes.now ≤ length c.fill.new.0 = let start = c in
+    let room : buckets + length c.args.codes.now ≤ length c.fill.new.row = let start = c in
         omega (arith, ap length c.fill.ensures, length-replicate (length start.args.index.now) (length start.args.codes.now), start.requires.codes_in_bounds) in
     let z : c.loop-b.b ≡ 0 = omega (arith, c.loop-b-test.false) in
     chained_all (rw z at c.loop-b.invariant) room

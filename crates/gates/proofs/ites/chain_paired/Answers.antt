@@ -6,6 +6,7 @@ use Rattle.clauses.specs.Row.{start_of}
 use Rattle.clauses.proofs.Chains.{chain_none}
 use Rattle.gates.proofs.Sizes.{place_linked, place_passed}
 use Rattle.gates.proofs.ites.chain_paired.Goals as goal
+use Rattle.gates.proofs.ites.chain_paired.Goals.{then-is_paired, else-is_paired}
 
 pub loop-p-init : goal.loop-p-init
 unfolding start_of
@@ -16,7 +17,7 @@ is_paired-requires c =
     record { indexed = c.requires.indexed; normal = c.requires.normal; kinds = c.requires.kinds; p_in_bounds = (omega (arith, c.loop-p-test.true), c.loop-p.invariant.3) }
 
 pub overflow_cast-codes : goal.overflow_cast-codes
-overflow_cast-codes c = omega (arith, c.shared_slice_known-then-is_paired-1.given c.loop-p.p)
+overflow_cast-codes c = omega (arith, c.type_inv.codes c.loop-p.p)
 
 pub link-requires : goal.link-requires
 link-requires c =
@@ -33,19 +34,20 @@ loop-p-preserved c =
     let turn = c.loop-p in
     let start = c in
     let inside = c.loop-p-test.true in
-    ⊎_elim
-    (λ w.
-    rw (w.9, w.10) (
-      w.4.kept.1.1.0 ∙ turn.invariant.0,
-      w.4.kept.1.1.1.0 ∙ turn.invariant.1,
+    elim c.if-is_paired.branch [
+      then-is_paired w ↦
+    rw (w.heads-is, w.chain-is) (
+      w.link.auto.heads ∙ turn.invariant.0,
+      w.link.auto.next ∙ turn.invariant.1,
       omega arith,
       c.next_start-b.ensures,
-      place_linked _ _ _ _ turn.invariant.4 (sym c.is_paired.ensures ∙ w.0.taken) (rw turn.invariant.0 (omega (arith, start.requires.normal.small turn.p, start.requires.room.literals)))
-          (omega (arith, turn.invariant.1, start.requires.room.places)) _ _ w.4.ensures.0 w.4.ensures.1,
-    ))
-    (λ w.
-    rw (w.1, w.2) (turn.invariant.0, turn.invariant.1, omega arith, c.next_start-b.ensures, place_passed _ _ _ _ turn.invariant.4 (sym c.is_paired.ensures ∙ w.0.left)))
-    c.if-is_paired.branch
+      place_linked _ _ _ _ turn.invariant.4 (sym c.is_paired.ensures ∙ w.if-is_paired.true) (rw turn.invariant.0 (omega (arith, start.requires.normal.small turn.p, start.requires.room.literals)))
+          (omega (arith, turn.invariant.1, start.requires.room.places)) _ _ w.link.ensures.heads w.link.ensures.next,
+    
+    )
+    | else-is_paired w ↦
+    rw (w.heads-is, w.chain-is) (turn.invariant.0, turn.invariant.1, omega arith, c.next_start-b.ensures, place_passed _ _ _ _ turn.invariant.4 (sym c.is_paired.ensures ∙ w.if-is_paired.false))
+    ]
 
 pub shape_of-heads : goal.shape_of-heads
 shape_of-heads c = c.loop-p.invariant.0

@@ -77,10 +77,10 @@ loop-k-preserved c =
     let here = (others _ _ _ _ (paired_in_three _ _ paired) c.next_place-next.ensures c.next_place-after.ensures) in
     let y-small = start.requires.normal.small c.next_place-next.result in
     let z-small = start.requires.normal.small c.next_place-after.result in (
-      second.auto.0 ∙ first.auto.0 ∙ turn.invariant.0,
-      second.auto.1.0 ∙ first.auto.1.0 ∙ turn.invariant.1,
+      second.auto.sizes ∙ first.auto.sizes ∙ turn.invariant.0,
+      second.auto.sides ∙ first.auto.sides ∙ turn.invariant.1,
       walk_next _ _ _ _ _ start.requires.places_chained turn.invariant.2 some refl,
-      counting_on _ _ _ _ start.requires.places_chained _ _ _ turn.invariant.2 some _ _ here.next_is here.after_is _ _ _ _ first.ensures.0 second.ensures.0 first.ensures.1 second.ensures.1
+      counting_on _ _ _ _ start.requires.places_chained _ _ _ turn.invariant.2 some _ _ here.next_is here.after_is _ _ _ _ first.ensures.sizes_after second.ensures.sizes_after first.ensures.sides_after second.ensures.sides_after
           (omega (arith, turn.invariant.0, z-small, start.requires.max_code_in_bounds.0)) (omega (arith, turn.invariant.0, y-small, start.requires.max_code_in_bounds.0))
           (omega (arith, turn.invariant.1, z-small, start.requires.max_code_in_bounds.1)) (omega (arith, turn.invariant.1, y-small, start.requires.max_code_in_bounds.1)) turn.invariant.3,
     )

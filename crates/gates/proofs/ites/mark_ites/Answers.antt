@@ -7,5 +7,4 @@ chain_paired-requires c =
 
 pub mark_sides-requires : goal.mark_sides-requires
 mark_sides-requires c =
-    let both = (c.requires.indexed, (c.requires.normal, (rw (c.chain_paired.auto.heads, c.chain_paired.auto.chain) c.requires.room, (c.chain_paired.ensures, c.requires.1.1.1.1.1)))) in
-    record { indexed = both.0; normal = both.1.0; room = both.1.1.0; places_chained = both.1.1.1.0; max_code_in_bounds = both.1.1.1.1.0; by_index = both.1.1.1.1.1.0; codes_in_bounds = both.1.1.1.1.1.1.0; ites_value = both.1.1.1.1.1.1.1 }
+    record { indexed = c.requires.indexed; normal = c.requires.normal; room = rw (c.chain_paired.auto.heads, c.chain_paired.auto.chain) c.requires.room; places_chained = c.chain_paired.ensures; max_code_in_bounds = c.requires.max_code_in_bounds; by_index = c.requires.by_index; codes_in_bounds = c.requires.codes_in_bounds; ites_value = c.requires.ites_value }

@@ -54,7 +54,7 @@ loop-k-preserved c =
     rw c.with_ites-found.ensures (
       walk_next _ _ _ _ _ c.requires.places_chained turn.invariant.0 some refl,
       sides_then _ _ _ _ (from_on _ _ _ _ c.requires.places_chained _ turn.invariant.0 some) turn.invariant.1
-          (sides_one _ (turn.k - 1) (omega (arith, turn.invariant.0.low)) _ (omega (arith, turn.invariant.0.low, turn.invariant.1.size, c.requires.codes_in_bounds.0)) _ _ _ here.0 here.1.0),
+          (sides_one _ (turn.k - 1) (omega (arith, turn.invariant.0.low)) _ (omega (arith, turn.invariant.0.low, turn.invariant.1.size, c.requires.codes_in_bounds.0)) _ _ _ here.mark_value here.plain_value),
       turn.invariant.2,
       turn.invariant.3,
     )

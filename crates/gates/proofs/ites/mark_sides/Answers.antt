@@ -34,9 +34,9 @@ loop-x-preserved c =
       counted.auto.sides ∙ turn.invariant.1,
       omega (arith, c.loop-x-test.true),
       c.clear_outputs.ensures,
-      sides_then _ _ _ _ (below_on _ turn.x) turn.invariant.4 marked.1,
-      marked.0.0 ∙ turn.invariant.5,
-      marked.0.1 ∙ turn.invariant.6,
+      sides_then _ _ _ _ (below_on _ turn.x) turn.invariant.4 marked.sides_at,
+      marked.ands_value.0 ∙ turn.invariant.5,
+      marked.ands_value.1 ∙ turn.invariant.6,
     )
 
 pub shape_of-sizes : goal.shape_of-sizes

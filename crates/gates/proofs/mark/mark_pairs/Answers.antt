@@ -6,6 +6,7 @@ use lib.ListN.{length}
 use Rattle.clauses.proofs.Rows.{starts_first, starts_next}
 use Rattle.gates.proofs.Pairs.{pairing_none, pairing_pair, pairing_other}
 use Rattle.gates.proofs.mark.mark_pairs.Goals as goal
+use Rattle.gates.proofs.mark.mark_pairs.Goals.{then-is_pair, else-is_pair}
 
 pub loop-b-init : goal.loop-b-init
 loop-b-init c = (omega arith, starts_first _, pairing_none _ _)
@@ -36,7 +37,7 @@ loop-b-smaller c =
 pub loop-b-preserved : goal.loop-b-preserved
 loop-b-preserved c =
     let inside : c.clause_end-end.result < length c.args.codes.now = omega (arith, c.clause_end-end.ensures, c.requires.normal.ended c.loop-b.b ((c.loop-b.invariant.1 (omega (arith, c.loop-b-test.true))))) in
-    (omega (arith, inside), λ h. rw c.clause_end-end.ensures (starts_next _ _ (omega (arith, c.clause_end-end.ensures, h))), ⊎_elim (λ w. rw (w.1, c.clause_end-end.ensures) (pairing_pair ((c.loop-b.invariant.1 (omega (arith, c.loop-b-test.true)))) (rw c.clause_end-end.ensures at inside) c.loop-b.invariant.2 (omega (arith, inside, c.clause_end-end.ensures, c.loop-b.invariant.2.size, c.requires.marks_len)) (sym c.is_pair.ensures ∙ w.0.taken))) (λ w. rw (w.1, c.clause_end-end.ensures) (pairing_other ((c.loop-b.invariant.1 (omega (arith, c.loop-b-test.true)))) (rw c.clause_end-end.ensures at inside) c.loop-b.invariant.2 (sym c.is_pair.ensures ∙ w.0.left))) c.if-is_pair.branch)
+    (omega (arith, inside), λ h. rw c.clause_end-end.ensures (starts_next _ _ (omega (arith, c.clause_end-end.ensures, h))), elim c.if-is_pair.branch [ then-is_pair w ↦ rw (w.marks-is, c.clause_end-end.ensures) (pairing_pair ((c.loop-b.invariant.1 (omega (arith, c.loop-b-test.true)))) (rw c.clause_end-end.ensures at inside) c.loop-b.invariant.2 (omega (arith, inside, c.clause_end-end.ensures, c.loop-b.invariant.2.size, c.requires.marks_len)) (sym c.is_pair.ensures ∙ w.if-is_pair.true)) | else-is_pair w ↦ rw (w.marks-is, c.clause_end-end.ensures) (pairing_other ((c.loop-b.invariant.1 (omega (arith, c.loop-b-test.true)))) (rw c.clause_end-end.ensures at inside) c.loop-b.invariant.2 (sym c.is_pair.ensures ∙ w.if-is_pair.false)) ])
 
 pub shape_of-marks : goal.shape_of-marks
 shape_of-marks c = c.loop-b.invariant.2.size

@@ -11,6 +11,7 @@ use Rattle.clauses.specs.Code.{code_of, negate}
 use Rattle.clauses.proofs.Signed.{code_small, read_back}
 use Rattle.gates.specs.Normal.{max_code}
 use Rattle.gates.proofs.normal.gather_literal.Goals as goal
+use Rattle.gates.proofs.normal.gather_literal.Goals.{then-seen-y, else-seen-y, then-seen-inverse, else-seen-inverse}
 
 pub code-y-requires : goal.code-y-requires
 code-y-requires c = rw (read_back c.args.x c.ranges.x.sfits) c.requires.2
@@ -85,7 +86,7 @@ pub overflow_add-result : goal.overflow_add-result
 overflow_add-result c = omega (arith, c.requires.0, c.requires.1)
 
 pub shape_of-codes : goal.shape_of-codes
-shape_of-codes c = ⊎_elim (λ w. ap length w.1 ∙ length-set c.args.codes.now c.args.t.put c.code-y.result) (λ w. ap length w.1) c.if-seen-y.branch
+shape_of-codes c = elim c.if-seen-y.branch [ then-seen-y w ↦ ap length w.codes-is ∙ length-set c.args.codes.now c.args.t.put c.code-y.result | else-seen-y w ↦ ap length w.codes-is ]
 
 pub shape_of-seen : goal.shape_of-seen
 shape_of-seen c = length-set c.args.seen.now c.code-y.result c.args.stamp
@@ -96,16 +97,16 @@ returns c =
     let coded : c.code-y.result ≡ (code_of c.args.x) = c.code-y.ensures ∙ ap code_of (read_back c.args.x c.ranges.x.sfits) in
     let inverted : c.inverse.result ≡ negate ((code_of c.args.x)) = c.inverse.ensures ∙ ap negate coded in
     let ignores : c.if-seen-inverse.ignored ≡ eqb (get_or c.args.seen.now (negate ((code_of c.args.x))) 0) c.args.stamp || c.args.t.ignored = let at = ap (λ (z : ℕ). get_or c.args.seen.now z 0) inverted in
-        ⊎_elim
-        (λ w. rw (w.1, eq-eqb _ c.args.stamp (sym at ∙ w.0.taken)))
-        (λ w. rw (w.1, ne_eqb _ c.args.stamp (λ e. w.0.left (at ∙ e))))
-        c.if-seen-inverse.branch in
+        elim c.if-seen-inverse.branch [
+          then-seen-inverse w ↦ rw (w.ignored-is, eq-eqb _ c.args.stamp (sym at ∙ w.if-seen-inverse.true))
+        | else-seen-inverse w ↦ rw (w.ignored-is, ne_eqb _ c.args.stamp (λ e. w.if-seen-inverse.false (at ∙ e)))
+        ] in
     let puts : (c.if-seen-y.put ≡ cond (eqb (get_or c.args.seen.now ((code_of c.args.x)) 0) c.args.stamp) c.args.t.put (c.args.t.put + 1)) × (c.if-seen-y.codes ≡ cond (eqb (get_or c.args.seen.now ((code_of c.args.x)) 0) c.args.stamp) c.args.codes.now (set c.args.codes.now c.args.t.put ((code_of c.args.x)))) = let start = c in
         let at = ap (λ (z : ℕ). get_or start.args.seen.now z 0) coded in
-        ⊎_elim
-        (λ w. rw (ne_eqb _ start.args.stamp (λ e. w.0.taken (at ∙ e))) (w.2, w.1 ∙ ap (set start.args.codes.now start.args.t.put) coded))
-        (λ w. rw (eq-eqb _ start.args.stamp (sym at ∙ w.0.left)) (w.2, w.1))
-        c.if-seen-y.branch in
+        elim c.if-seen-y.branch [
+          then-seen-y w ↦ rw (ne_eqb _ start.args.stamp (λ e. w.if-seen-y.true (at ∙ e))) (w.put-is, w.codes-is ∙ ap (set start.args.codes.now start.args.t.put) coded)
+        | else-seen-y w ↦ rw (eq-eqb _ start.args.stamp (sym at ∙ w.if-seen-y.false)) (w.put-is, w.codes-is)
+        ] in
     λ i. record {
   gathered = record { end = c.args.t.end + 1; put = puts.0 i; ignored = ignores i };
   codes = puts.1 i;

@@ -7,6 +7,7 @@ use Rattle.clauses.proofs.Rows.{literal_within}
 use Rattle.gates.proofs.Walks.{within_stop, within_out, within_on}
 use Rattle.gates.proofs.LiteralPlaces.{place_some, place_none, place_next}
 use Rattle.gates.proofs.same.is_within.Goals as goal
+use Rattle.gates.specs.Search.{PlaceOf}
 
 pub loop-a-init : goal.loop-a-init
 loop-a-init c = (omega arith, omega arith, refl)
@@ -44,7 +45,7 @@ pub loop-a-preserved : goal.loop-a-preserved
 loop-a-preserved c =
     let some : get_or c.args.codes.now c.loop-a.i 0 ≢ 0 = λ e. c.if-x-eq0.false (c.literal-x.ensures ∙ e) in
     let there : get_or c.args.codes.now c.place_near-p.result 0 ≢ 0 = λ e. c.if-literal-eq0.false (c.literal.ensures ∙ e) in
-    let f = (rw (← c.literal-x.ensures) c.place_near-p.ensures) in (
+    let f : PlaceOf c.args.codes.now c.args.b (get_or c.args.codes.now c.loop-a.i 0) c.place_near-p.result = rw (← c.literal-x.ensures) c.place_near-p.ensures in (
       omega (arith, f.low),
       place_next f there,
       c.loop-a.invariant.2

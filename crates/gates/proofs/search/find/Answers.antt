@@ -11,11 +11,12 @@ use Rattle.gates.specs.Index.{buckets}
 use Rattle.gates.specs.Mask.{masked}
 use Rattle.gates.proofs.Buckets.{bucket_small}
 use Rattle.gates.proofs.ClauseChains.{Searching, searching_first, searching_next, searching_falls}
-use Rattle.gates.proofs.Places.{nowhere, there, ended_at, ended_nothing}
+use Rattle.gates.proofs.Places.{Ended, nowhere, there, ended_at, ended_nothing}
 use Rattle.gates.proofs.Masks.{masked_length}
 use Rattle.gates.proofs.Walks.{all_end, all_no, all_on, same_no}
 use Rattle.gates.proofs.Queries.{same_ended, same_longer}
 use Rattle.gates.proofs.search.find.Goals as goal
+use Rattle.gates.proofs.search.find.Goals.{Joined-n-b, then-n-b, else-n-b+else-literal-ne0+else-literals-test}
 
 pub offset_bounds-index-bucket_of : goal.offset_bounds-index-bucket_of
 offset_bounds-index-bucket_of c =
@@ -78,24 +79,19 @@ literals-preserved c =
     let step = c.literals in
     step.invariant ∙ all_on c.args.q.now step.i step.m _ c.literals-test.true (rw c.flipped.ensures at (sym c.holds.ensures ∙ not-false _ c.if-not-holds.false-raw))
 
+-- where the loop is left
+ended : (c : Joined-n-b) → Ended c.args.codes.now (masked c.args.mask c.args.q.now) c.if-n-b.found
+ended c =
+    elim c.if-n-b.branch [
+      then-n-b w ↦ nowhere c.clauses.invariant.passed w.if-n-b.true w.found-is
+    | else-n-b+else-literal-ne0+else-literals-test w ↦
+        let there_all : within (masked c.args.mask c.args.q.now) (clause_at c.args.codes.now c.clauses.b) ≡ true =
+            w.literals.invariant ∙ all_end c.args.q.now w.literals.i w.literals.m _ w.literals-test.false in
+        rw w.found-is (there c.clauses.invariant.passed (omega (arith, w.if-n-b.false)) (same_ended _ _ _ _ (masked_length _ _) c.requires.once there_all (sym w.literal.ensures ∙ w.if-literal-ne0.false)))
+    ]
+
 pub returns-then-found-n : goal.returns-then-found-n
-returns-then-found-n c =
-    let all_there : within (masked c.args.mask c.args.q.now) (clause_at c.args.codes.now c.clauses.b) ≡ true = c.literals.invariant ∙ all_end c.args.q.now c.literals.i c.literals.m _ c.literals-test.false in
-    ended_at ((let turn = c.clauses in
-    ⊎_elim
-    (λ w. nowhere turn.invariant.passed w.0.taken w.2)
-    (λ w.
-    let left : tie.After-literals invariant-literals decreases-literals invariant-clauses decreases-clauses = record { before = record { before = record { before = record { before = record { before = record { before = c; if1 = w.0 }; shared-slice-known5 = w.1 }; literal = w.2 }; if2 = w.3 }; literals = w.4 }; literals-test = w.5 } in
-    rw w.7 (there turn.invariant.passed (omega (arith, w.0.left)) (same_ended _ _ _ _ (masked_length _ _) c.requires.once all_there (sym w.2.ensures ∙ w.3.left))))
-    c.if-n-b.branch)) c.if-found-n.true
+returns-then-found-n c = ended_at (ended (goal.at.returns-then-found-n c).Joined-n-b) c.if-found-n.true
 
 pub returns : goal.returns
-returns c =
-    let all_there : within (masked c.args.mask c.args.q.now) (clause_at c.args.codes.now c.clauses.b) ≡ true = c.literals.invariant ∙ all_end c.args.q.now c.literals.i c.literals.m _ c.literals-test.false in
-    ended_nothing ((let turn = c.clauses in
-    ⊎_elim
-    (λ w. nowhere turn.invariant.passed w.0.taken w.2)
-    (λ w.
-    let left : tie.After-literals invariant-literals decreases-literals invariant-clauses decreases-clauses = record { before = record { before = record { before = record { before = record { before = record { before = c; if1 = w.0 }; shared-slice-known5 = w.1 }; literal = w.2 }; if2 = w.3 }; literals = w.4 }; literals-test = w.5 } in
-    rw w.7 (there turn.invariant.passed (omega (arith, w.0.left)) (same_ended _ _ _ _ (masked_length _ _) c.requires.once all_there (sym w.2.ensures ∙ w.3.left))))
-    c.if-n-b.branch)) c.if-found-n.false
+returns c = ended_nothing (ended (goal.at.returns c).Joined-n-b) c.if-found-n.false
