@@ -47,17 +47,17 @@ returns-then-not-starts_line c =
       same_words = c.loop-i.invariant.0;
       low = c.loop-i.invariant.1.0;
       within = c.loop-i.invariant.1.1;
-      word_starts = λ h. record { not_blank = sym c.is_blank.ensures ∙ c.if-is_blank.false; not_comment = λ e. sym c.starts_line.ensures ∙ not-true _ c.if-not-starts_line.true-raw };
+      word_starts = λ h. record { not_blank = sym c.is_blank.ensures ∙ c.if-is_blank.false; not_comment = λ e. sym c.starts_line.ensures ∙ c.if-not-starts_line.true };
     }
 
 pub loop-i-smaller : goal.loop-i-smaller
 loop-i-smaller c =
-    let p = comment c.args.text.now c.loop-i.i c.run_end-i.result c.loop-i-test.true c.if-b-ne99.false (sym c.starts_line.ensures ∙ not-false _ c.if-not-starts_line.false-raw) c.run_end-i.ensures in
+    let p = comment c.args.text.now c.loop-i.i c.run_end-i.result c.loop-i-test.true c.if-b-ne99.false (sym c.starts_line.ensures ∙ c.if-not-starts_line.false) c.run_end-i.ensures in
     omega (arith, p.further, p.within)
 
 pub loop-i-preserved : goal.loop-i-preserved
 loop-i-preserved c =
-    let p = comment c.args.text.now c.loop-i.i c.run_end-i.result c.loop-i-test.true c.if-b-ne99.false (sym c.starts_line.ensures ∙ not-false _ c.if-not-starts_line.false-raw) c.run_end-i.ensures in
+    let p = comment c.args.text.now c.loop-i.i c.run_end-i.result c.loop-i-test.true c.if-b-ne99.false (sym c.starts_line.ensures ∙ c.if-not-starts_line.false) c.run_end-i.ensures in
     (c.loop-i.invariant.0 ∙ p.same_words, (omega (arith, p.further, c.loop-i.invariant.1.0), p.within))
 
 pub returns : goal.returns

@@ -32,7 +32,7 @@ pub returns-in_default : goal.returns-in_default
 returns-in_default c =
     let line : take (c.run_end-end.result - c.loop-at.at) (drop c.loop-at.at c.args.text.now) ≡ front (lacks is_lf) (drop c.loop-at.at c.args.text.now) = line_part c.args.text.now c.loop-at.at c.run_end-end.result c.run_end-end.ensures in
     c.loop-at.invariant.0
-    ∙ heading_malformed _ c.args.text.now c.loop-at.at (ap is_passed (sym line) ∙ sym c.is_passed.ensures ∙ not-true _ c.if-not-is_passed.true-raw)
+    ∙ heading_malformed _ c.args.text.now c.loop-at.at (ap is_passed (sym line) ∙ sym c.is_passed.ensures ∙ c.if-not-is_passed.true)
     (ap header_line (sym line) ∙ header_none _ (sym c.read_header.ensures ∙ c.in_default.is))
 
 pub returns-then-not-is_passed : goal.returns-then-not-is_passed
@@ -54,7 +54,7 @@ returns-then-not-is_passed c = (
     end-within = omega (arith, room, c.run_end-end.ensures, length-drop c.loop-at.at c.args.text.now, c.loop-at-test.true)
 
     not-passed : is_passed (front (lacks is_lf) (drop c.loop-at.at c.args.text.now)) ≡ false
-    not-passed = ap is_passed (sym line) ∙ sym c.is_passed.ensures ∙ not-true _ c.if-not-is_passed.true-raw
+    not-passed = ap is_passed (sym line) ∙ sym c.is_passed.ensures ∙ c.if-not-is_passed.true
 
     more : c.loop-at.at < c.run_end-end.result
     more = go (dec_lt c.loop-at.at c.run_end-end.result)
@@ -81,7 +81,7 @@ loop-at-preserved c =
     let room : length (front (lacks is_lf) (drop c.loop-at.at c.args.text.now)) ≤ length (drop c.loop-at.at c.args.text.now) = front_length (lacks is_lf) (drop c.loop-at.at c.args.text.now) in
     let end-within : c.run_end-end.result ≤ length c.args.text.now = omega (arith, room, c.run_end-end.ensures, length-drop c.loop-at.at c.args.text.now, c.loop-at-test.true) in (
       c.loop-at.invariant.0
-          ∙ heading_passed _ c.args.text.now c.loop-at.at (ap is_passed (sym line) ∙ sym c.is_passed.ensures ∙ not-false _ c.if-not-is_passed.false-raw)
+          ∙ heading_passed _ c.args.text.now c.loop-at.at (ap is_passed (sym line) ∙ sym c.is_passed.ensures ∙ c.if-not-is_passed.false)
           ∙ heading_behind c.args.text.now c.loop-at.at c.run_end-end.result c.run_end-end.ensures _,
       omega (arith, end-within),
     )

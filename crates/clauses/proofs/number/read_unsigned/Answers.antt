@@ -10,7 +10,7 @@ returns-in_default c = sym (unsigned_malformed _ _ (sym c.read_digits.ensures �
 
 pub returns-then-not-is_blank : goal.returns-then-not-is_blank
 returns-then-not-is_blank c =
-    word_breaks (c.args.text.now) (c.args.at) _ _ (sym c.read_digits.ensures ∙ c.in-Value.is) c.if-end-text.true (sym c.is_blank.ensures ∙ not-true _ c.if-not-is_blank.true-raw)
+    word_breaks (c.args.text.now) (c.args.at) _ _ (sym c.read_digits.ensures ∙ c.in-Value.is) c.if-end-text.true (sym c.is_blank.ensures ∙ c.if-not-is_blank.true)
 
 pub returns-else-not-is_blank : goal.returns-else-not-is_blank
 returns-else-not-is_blank c =

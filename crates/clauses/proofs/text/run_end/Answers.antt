@@ -8,12 +8,12 @@ use Rattle.clauses.proofs.text.run_end.Goals as goal
 
 pub returns-then-not-is_in : goal.returns-then-not-is_in
 returns-then-not-is_in c =
-    let e = run_stops (is_in c.args.class) c.args.text.now c.loop-i.i c.loop-i-test.true (sym c.is_in.ensures ∙ not-true _ c.if-not-is_in.true-raw) in
+    let e = run_stops (is_in c.args.class) c.args.text.now c.loop-i.i c.loop-i-test.true (sym c.is_in.ensures ∙ c.if-not-is_in.true) in
     omega (arith, c.loop-i.invariant, ap length e)
 
 pub loop-i-preserved : goal.loop-i-preserved
 loop-i-preserved c =
-    let e = run_goes_on (is_in c.args.class) c.args.text.now c.loop-i.i c.loop-i-test.true (sym c.is_in.ensures ∙ not-false _ c.if-not-is_in.false-raw) in
+    let e = run_goes_on (is_in c.args.class) c.args.text.now c.loop-i.i c.loop-i-test.true (sym c.is_in.ensures ∙ c.if-not-is_in.false) in
     omega (arith, c.loop-i.invariant, ap length e)
 
 pub returns : goal.returns

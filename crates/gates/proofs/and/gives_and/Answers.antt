@@ -16,11 +16,11 @@ loop-i-init c = refl
 
 pub returns-then-not-is_input : goal.returns-then-not-is_input
 returns-then-not-is_input c =
-    sym (c.loop-i.invariant ∙ every_no (λ k. eqb k c.args.l || present (clauses_in c.args.codes.now) (negate c.args.l ∷ negate k ∷ [])) c.args.clause.now c.loop-i.i c.loop-i-test.true (sym c.is_input.ensures ∙ not-true _ c.if-not-is_input.true-raw))
+    sym (c.loop-i.invariant ∙ every_no (λ k. eqb k c.args.l || present (clauses_in c.args.codes.now) (negate c.args.l ∷ negate k ∷ [])) c.args.clause.now c.loop-i.i c.loop-i-test.true (sym c.is_input.ensures ∙ c.if-not-is_input.true))
 
 pub loop-i-preserved : goal.loop-i-preserved
 loop-i-preserved c =
-    c.loop-i.invariant ∙ every_on (λ k. eqb k c.args.l || present (clauses_in c.args.codes.now) (negate c.args.l ∷ negate k ∷ [])) c.args.clause.now c.loop-i.i c.loop-i-test.true (sym c.is_input.ensures ∙ not-false _ c.if-not-is_input.false-raw)
+    c.loop-i.invariant ∙ every_on (λ k. eqb k c.args.l || present (clauses_in c.args.codes.now) (negate c.args.l ∷ negate k ∷ [])) c.args.clause.now c.loop-i.i c.loop-i-test.true (sym c.is_input.ensures ∙ c.if-not-is_input.false)
 
 pub returns : goal.returns
 returns c =

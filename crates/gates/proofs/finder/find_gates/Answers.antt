@@ -37,15 +37,24 @@ pub mark_gates-counts-requires : goal.mark_gates-counts-requires
 mark_gates-counts-requires c =
     let fits : c.prepare-n.result ≤ length c.args.row.now = omega (arith, c.prepare-n.ensures.value, normal_length c.args.row.now c.requires.row_value) in
     let part : take c.prepare-n.result c.prepare-n.new.codes ≡ normal_row c.args.row.now = ap (λ (n : ℕ). take n c.prepare-n.new.codes) c.prepare-n.ensures.value ∙ c.prepare-n.ensures.codes_after in
-    let start = c in let row = start.args.row.now in let short = normal_length row start.requires.row_value in rw part (record { indexed = c.prepare-n.ensures.indexed; normal = normal-row row start.requires.row_len_bound start.requires.small_entries start.requires.row_value; room = record {
-            literals = omega (arith, length-replicate {A = ℕ} 2050 0);
-            inverses = omega (arith, length-replicate {A = ℕ} 2050 0);
-            fits = omega (arith, length-replicate {A = ℕ} 2050 0);
-            places = omega (arith, short, start.requires.row_len_bound, length-replicate {A = ℕ} 16384 0);
-          }; codes_in_bounds = (
-              omega (arith, short, start.requires.row_len_bound, length-replicate {A = ℕ} 16384 0),
-              omega (arith, c.prepare-n.auto.seen, length-replicate {A = ℕ} 2050 0),
-            ); heads_value = sym (ap (λ (k : ℕ). replicate k 0) (length-replicate {A = ℕ} 2050 0)); max_code_in_bounds = (omega (arith, length-replicate {A = ℕ} 2050 0), omega (arith, length-replicate {A = ℕ} 2050 0)); by_index = zero_at 2050; marks_len = length-take-le _ _ (omega (arith, fits, start.requires.row_in_bounds_2)) ∙ c.prepare-n.ensures.value })
+    let start = c in let row = start.args.row.now in let short = normal_length row start.requires.row_value in rw part (record {
+      indexed = c.prepare-n.ensures.indexed;
+      normal = normal-row row start.requires.row_len_bound start.requires.small_entries start.requires.row_value;
+      room = record {
+        literals = omega (arith, length-replicate {A = ℕ} 2050 0);
+        inverses = omega (arith, length-replicate {A = ℕ} 2050 0);
+        fits = omega (arith, length-replicate {A = ℕ} 2050 0);
+        places = omega (arith, short, start.requires.row_len_bound, length-replicate {A = ℕ} 16384 0);
+      };
+      codes_in_bounds = (
+        omega (arith, short, start.requires.row_len_bound, length-replicate {A = ℕ} 16384 0),
+        omega (arith, c.prepare-n.auto.seen, length-replicate {A = ℕ} 2050 0),
+      );
+      heads_value = sym (ap (λ (k : ℕ). replicate k 0) (length-replicate {A = ℕ} 2050 0));
+      max_code_in_bounds = (omega (arith, length-replicate {A = ℕ} 2050 0), omega (arith, length-replicate {A = ℕ} 2050 0));
+      by_index = zero_at 2050;
+      marks_len = length-take-le _ _ (omega (arith, fits, start.requires.row_in_bounds_2)) ∙ c.prepare-n.ensures.value;
+    })
 
 pub returns : goal.returns
 returns c =

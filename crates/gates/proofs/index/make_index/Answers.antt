@@ -18,9 +18,11 @@ pub is_start-requires : goal.is_start-requires
 is_start-requires c = omega (arith, c.loop-b.invariant.inside, c.loop-b-test.true)
 
 pub bucket_at-h-requires : goal.bucket_at-h-requires
-bucket_at-h-requires c =
-    (c.requires.normal, (let turn = c.loop-b in
-    start_true c.args.codes.now (turn.b - 1) (omega (arith, turn.invariant.inside, c.loop-b-test.true)) (sym c.is_start.ensures ∙ c.if-is_start.true)))
+bucket_at-h-requires c = (
+  c.requires.normal,
+  (let turn = c.loop-b in
+      start_true c.args.codes.now (turn.b - 1) (omega (arith, turn.invariant.inside, c.loop-b-test.true)) (sym c.is_start.ensures ∙ c.if-is_start.true)),
+)
 
 pub offset_bounds-index-h : goal.offset_bounds-index-h
 offset_bounds-index-h c =
@@ -30,7 +32,7 @@ offset_bounds-index-h c =
 pub bounds-index-h : goal.bounds-index-h
 bounds-index-h c =
     let room : buckets + length c.args.codes.now ≤ length c.fill.new.row = let start = c in
-        omega (arith, ap length c.fill.ensures, length-replicate (length start.args.index.now) (length start.args.codes.now), start.requires.codes_in_bounds) in
+    omega (arith, ap length c.fill.ensures, length-replicate (length start.args.index.now) (length start.args.codes.now), start.requires.codes_in_bounds) in
     let bucket : c.bucket_at-h.result < buckets = omega (arith, c.bucket_at-h.ensures, bucket_small (clause_at c.args.codes.now (c.loop-b.b - 1))) in
     omega (arith, bucket, room, c.loop-b.invariant.room)
 
@@ -43,7 +45,7 @@ offset_bounds-index-b c = omega (arith, c.loop-b.invariant.inside, c.requires.no
 pub bounds-index-b : goal.bounds-index-b
 bounds-index-b c =
     let room : buckets + length c.args.codes.now ≤ length c.fill.new.row = let start = c in
-        omega (arith, ap length c.fill.ensures, length-replicate (length start.args.index.now) (length start.args.codes.now), start.requires.codes_in_bounds) in
+    omega (arith, ap length c.fill.ensures, length-replicate (length start.args.index.now) (length start.args.codes.now), start.requires.codes_in_bounds) in
     let turn = c.loop-b in
     omega (arith, turn.invariant.inside, c.loop-b-test.true, room, turn.invariant.room)
 
@@ -58,14 +60,14 @@ offset_bounds-index-h-then-is_start c =
 pub bounds-index-h-then-is_start : goal.bounds-index-h-then-is_start
 bounds-index-h-then-is_start c =
     let room : buckets + length c.args.codes.now ≤ length c.fill.new.row = let start = c in
-        omega (arith, ap length c.fill.ensures, length-replicate (length start.args.index.now) (length start.args.codes.now), start.requires.codes_in_bounds) in
+    omega (arith, ap length c.fill.ensures, length-replicate (length start.args.index.now) (length start.args.codes.now), start.requires.codes_in_bounds) in
     let bucket : c.bucket_at-h.result < buckets = omega (arith, c.bucket_at-h.ensures, bucket_small (clause_at c.args.codes.now (c.loop-b.b - 1))) in
     rw length-set (omega (arith, bucket, room, c.loop-b.invariant.room))
 
 pub loop-b-preserved-then-is_start : goal.loop-b-preserved-then-is_start
 loop-b-preserved-then-is_start c =
     let room : buckets + length c.args.codes.now ≤ length c.fill.new.row = let start = c in
-        omega (arith, ap length c.fill.ensures, length-replicate (length start.args.index.now) (length start.args.codes.now), start.requires.codes_in_bounds) in
+    omega (arith, ap length c.fill.ensures, length-replicate (length start.args.index.now) (length start.args.codes.now), start.requires.codes_in_bounds) in
     chained_put ((let z : c.loop-b.b - 1 + 1 ≡ c.loop-b.b = omega (arith, c.loop-b-test.true) in
     rw z c.loop-b.invariant)) ((let turn = c.loop-b in
     start_true c.args.codes.now (turn.b - 1) (omega (arith, turn.invariant.inside, c.loop-b-test.true)) (sym c.is_start.ensures ∙ c.if-is_start.true))) room c.bucket_at-h.ensures
@@ -82,6 +84,6 @@ shape_of-index c = c.loop-b.invariant.room ∙ c.fill.auto.row
 pub returns : goal.returns
 returns c =
     let room : buckets + length c.args.codes.now ≤ length c.fill.new.row = let start = c in
-        omega (arith, ap length c.fill.ensures, length-replicate (length start.args.index.now) (length start.args.codes.now), start.requires.codes_in_bounds) in
+    omega (arith, ap length c.fill.ensures, length-replicate (length start.args.index.now) (length start.args.codes.now), start.requires.codes_in_bounds) in
     let z : c.loop-b.b ≡ 0 = omega (arith, c.loop-b-test.false) in
     chained_all (rw z at c.loop-b.invariant) room

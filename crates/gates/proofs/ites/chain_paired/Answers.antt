@@ -1,5 +1,4 @@
 use mathlib.Core.Path.{◌≡◌, refl, sym, ◌∙◌}
-use mathlib.Core.Logic.{⊎_elim}
 use native.Mathlib.Omega.{arith}
 use lib.ListN.{length}
 use Rattle.clauses.specs.Row.{start_of}
@@ -35,18 +34,17 @@ loop-p-preserved c =
     let start = c in
     let inside = c.loop-p-test.true in
     elim c.if-is_paired.branch [
-      then-is_paired w ↦
-    rw (w.heads-is, w.chain-is) (
-      w.link.auto.heads ∙ turn.invariant.0,
-      w.link.auto.next ∙ turn.invariant.1,
-      omega arith,
-      c.next_start-b.ensures,
-      place_linked _ _ _ _ turn.invariant.4 (sym c.is_paired.ensures ∙ w.if-is_paired.true) (rw turn.invariant.0 (omega (arith, start.requires.normal.small turn.p, start.requires.room.literals)))
-          (omega (arith, turn.invariant.1, start.requires.room.places)) _ _ w.link.ensures.heads w.link.ensures.next,
-    
-    )
-    | else-is_paired w ↦
-    rw (w.heads-is, w.chain-is) (turn.invariant.0, turn.invariant.1, omega arith, c.next_start-b.ensures, place_passed _ _ _ _ turn.invariant.4 (sym c.is_paired.ensures ∙ w.if-is_paired.false))
+      | then-is_paired w ↦
+          rw (w.heads-is, w.chain-is) (
+            w.link.auto.heads ∙ turn.invariant.0,
+            w.link.auto.next ∙ turn.invariant.1,
+            omega arith,
+            c.next_start-b.ensures,
+            place_linked _ _ _ _ turn.invariant.4 (sym c.is_paired.ensures ∙ w.if-is_paired.true) (rw turn.invariant.0 (omega (arith, start.requires.normal.small turn.p, start.requires.room.literals)))
+                (omega (arith, turn.invariant.1, start.requires.room.places)) _ _ w.link.ensures.heads w.link.ensures.next,
+          )
+      | else-is_paired w ↦
+          rw (w.heads-is, w.chain-is) (turn.invariant.0, turn.invariant.1, omega arith, c.next_start-b.ensures, place_passed _ _ _ _ turn.invariant.4 (sym c.is_paired.ensures ∙ w.if-is_paired.false))
     ]
 
 pub shape_of-heads : goal.shape_of-heads

@@ -1,4 +1,3 @@
-
 use Rattle.gates.proofs.ites.mark_ites.Goals as goal
 
 pub chain_paired-requires : goal.chain_paired-requires

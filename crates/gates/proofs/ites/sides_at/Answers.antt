@@ -52,9 +52,9 @@ pub one_inverse-inverses-requires : goal.one_inverse-inverses-requires
 one_inverse-inverses-requires c =
     let found : Others c.args.codes.now c.args.p c.next_place-next.result c.next_place-after.result = others _ _ _ _ (paired_in_three _ _ c.requires.p_value) c.next_place-next.ensures c.next_place-after.ensures in
     let nets : (net c.inverse-select.result ≢ net (get_or c.args.codes.now c.next_place-next.result 0)) × (net c.inverse-select.result ≢ net (get_or c.args.codes.now c.next_place-after.result 0)) × (net (get_or c.args.codes.now c.next_place-next.result 0) ≢ net (get_or c.args.codes.now c.next_place-after.result 0)) = let s = half_side c.requires.normal _ c.requires.p_value false in
-        let f = apart_nets s.apart in
-        rw (c.inverse-select.ensures, found.next_is, found.after_is)
-        (λ e. f.cl (omega arith), λ e. f.tc (omega arith), λ e. f.tl (omega arith)) in
+    let f = apart_nets s.apart in
+    rw (c.inverse-select.ensures, found.next_is, found.after_is)
+    (λ e. f.cl (omega arith), λ e. f.tc (omega arith), λ e. f.tl (omega arith)) in
     record { indexed = c.requires.indexed; normal = c.requires.normal; y_in_bounds = room c.args.codes.now c.args.sizes.now c.args.sides.now c.requires.normal c.requires.max_code_in_bounds c.next_place-next.result; sized = rw c.inverse-select.ensures c.requires.sized; x_nonzero = nets }
 
 pub overflow_cast-n : goal.overflow_cast-n

@@ -14,13 +14,13 @@ use Rattle.clauses.specs.Code.{code_of}
 use Rattle.clauses.specs.Limit.{max_nets}
 use Rattle.clauses.specs.Lists.{any}
 use Rattle.clauses.specs.Listing.{literals, tautology}
-use Rattle.clauses.specs.Row.{clause_at, SmallEntries}
+use Rattle.clauses.specs.Row.{SmallEntries}
 use Rattle.clauses.proofs.Rows.{literal_within}
 use Rattle.clauses.proofs.Signed.{code_entry, code_small, read_back}
 use Rattle.clauses.proofs.Walks.{stepped}
 use Rattle.gates.specs.declared.normal.Gathered.{Gathered}
-use Rattle.gates.specs.Normal.{Gathering, gathered_of, gather_on}
-use Rattle.gates.proofs.Normalising.{Walking, walking_none, walking_end, walking_more, gathered_more, stamped_old}
+use Rattle.gates.specs.Normal.{Gathering, gathered_of}
+use Rattle.gates.proofs.Normalising.{walking_none, walking_end, walking_more, gathered_more, stamped_old}
 use Rattle.gates.proofs.normal.gather_clause.Goals as goal
 
 code_none : (z : ℤ) → code_of z ≡ 0 → z ≡ pos 0
@@ -95,12 +95,14 @@ loop-walk-preserved c =
     let few = small c.args.row.now c.next-x.result c.loop-walk.walk.row.now c.loop-walk.walk.at c.requires.2 c.next-x.ensures.0 k.lent in
     let some : x ≢ 0 = λ z. c.if-x-eq0.false (ap (of_z w32) (code_none c.next-x.result z)) in
     let fits : x < length c.args.seen.now = omega (arith, code_small c.next-x.result max_nets few, c.requires.3) in
-    let told = rw (read_back c.next-x.result c.next-x.type_inv, k.same) at c.gather_literal-gathered.ensures in
-    (w ++ (x ∷ []), record {
-      lent = s.lent;
-      place = omega (arith, s.on, k.place, length-append w (x ∷ []));
-      same = ap (λ (g : Gathering). g.gathered) told ∙ gathered_more k.keeps x at some fits;
-      keeps =
-          rw (ap (λ (g : Gathering). g.codes) told, ap (λ (g : Gathering). g.seen) told)
-          (walking_more k.keeps x at some fits (omega (arith, within, c.requires.0, c.requires.1, c.loop-walk.auto.codes, literals_length w)));
-    })
+    let told = rw (read_back c.next-x.result c.next-x.type_inv, k.same) at c.gather_literal-gathered.ensures in (
+      w ++ (x ∷ []),
+      record {
+        lent = s.lent;
+        place = omega (arith, s.on, k.place, length-append w (x ∷ []));
+        same = ap (λ (g : Gathering). g.gathered) told ∙ gathered_more k.keeps x at some fits;
+        keeps =
+            rw (ap (λ (g : Gathering). g.codes) told, ap (λ (g : Gathering). g.seen) told)
+            (walking_more k.keeps x at some fits (omega (arith, within, c.requires.0, c.requires.1, c.loop-walk.auto.codes, literals_length w)));
+      },
+    )

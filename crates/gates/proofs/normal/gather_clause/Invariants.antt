@@ -8,12 +8,12 @@ use Rattle.gates.proofs.normal.gather_clause.Given as goal
 abbrev pub invariant-loop-walk : goal.invariant-loop-walk
 invariant-loop-walk l =
     (w : List ℕ) × (
-      record {
-        lent : l.walk.row.now ≡ l.row;
-        place : l.walk.at ≡ l.b + length w;
-        same : l.gathered ≡ gathered_of l.b l.n w;
-        keeps : Walking (map code_of l.row) l.b l.n (length l.initial.seen) l.stamp l.initial.codes w l.codes l.seen;
-      })
+    record {
+      lent : l.walk.row.now ≡ l.row;
+      place : l.walk.at ≡ l.b + length w;
+      same : l.gathered ≡ gathered_of l.b l.n w;
+      keeps : Walking (map code_of l.row) l.b l.n (length l.initial.seen) l.stamp l.initial.codes w l.codes l.seen;
+    })
 
 abbrev pub decreases-loop-walk : goal.decreases-loop-walk
 decreases-loop-walk l = length l.row - l.walk.at

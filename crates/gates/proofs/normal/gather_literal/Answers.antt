@@ -1,5 +1,4 @@
 use mathlib.Core.Path.{◌≡◌, sym, ◌∙◌, ap}
-use mathlib.Core.Logic.{⊎_elim}
 use mathlib.Core.Bool.{cond, ◌||◌}
 use mathlib.Core.List.{List}
 use Prim.Native.Nat.{ℕ, ◌+◌, ◌≤◌}
@@ -97,18 +96,18 @@ returns c =
     let coded : c.code-y.result ≡ (code_of c.args.x) = c.code-y.ensures ∙ ap code_of (read_back c.args.x c.ranges.x.sfits) in
     let inverted : c.inverse.result ≡ negate ((code_of c.args.x)) = c.inverse.ensures ∙ ap negate coded in
     let ignores : c.if-seen-inverse.ignored ≡ eqb (get_or c.args.seen.now (negate ((code_of c.args.x))) 0) c.args.stamp || c.args.t.ignored = let at = ap (λ (z : ℕ). get_or c.args.seen.now z 0) inverted in
-        elim c.if-seen-inverse.branch [
-          then-seen-inverse w ↦ rw (w.ignored-is, eq-eqb _ c.args.stamp (sym at ∙ w.if-seen-inverse.true))
-        | else-seen-inverse w ↦ rw (w.ignored-is, ne_eqb _ c.args.stamp (λ e. w.if-seen-inverse.false (at ∙ e)))
-        ] in
+    elim c.if-seen-inverse.branch [
+      | then-seen-inverse w ↦ rw (w.ignored-is, eq-eqb _ c.args.stamp (sym at ∙ w.if-seen-inverse.true))
+      | else-seen-inverse w ↦ rw (w.ignored-is, ne_eqb _ c.args.stamp (λ e. w.if-seen-inverse.false (at ∙ e)))
+    ] in
     let puts : (c.if-seen-y.put ≡ cond (eqb (get_or c.args.seen.now ((code_of c.args.x)) 0) c.args.stamp) c.args.t.put (c.args.t.put + 1)) × (c.if-seen-y.codes ≡ cond (eqb (get_or c.args.seen.now ((code_of c.args.x)) 0) c.args.stamp) c.args.codes.now (set c.args.codes.now c.args.t.put ((code_of c.args.x)))) = let start = c in
-        let at = ap (λ (z : ℕ). get_or start.args.seen.now z 0) coded in
-        elim c.if-seen-y.branch [
-          then-seen-y w ↦ rw (ne_eqb _ start.args.stamp (λ e. w.if-seen-y.true (at ∙ e))) (w.put-is, w.codes-is ∙ ap (set start.args.codes.now start.args.t.put) coded)
-        | else-seen-y w ↦ rw (eq-eqb _ start.args.stamp (sym at ∙ w.if-seen-y.false)) (w.put-is, w.codes-is)
-        ] in
+    let at = ap (λ (z : ℕ). get_or start.args.seen.now z 0) coded in
+    elim c.if-seen-y.branch [
+      | then-seen-y w ↦ rw (ne_eqb _ start.args.stamp (λ e. w.if-seen-y.true (at ∙ e))) (w.put-is, w.codes-is ∙ ap (set start.args.codes.now start.args.t.put) coded)
+      | else-seen-y w ↦ rw (eq-eqb _ start.args.stamp (sym at ∙ w.if-seen-y.false)) (w.put-is, w.codes-is)
+    ] in
     λ i. record {
-  gathered = record { end = c.args.t.end + 1; put = puts.0 i; ignored = ignores i };
-  codes = puts.1 i;
-  seen = set c.args.seen.now (coded i) c.args.stamp;
-}
+      gathered = record { end = c.args.t.end + 1; put = puts.0 i; ignored = ignores i };
+      codes = puts.1 i;
+      seen = set c.args.seen.now (coded i) c.args.stamp;
+    }

@@ -1,5 +1,4 @@
 use mathlib.Core.Path.{◌≡◌, refl, sym, ◌∙◌, ap}
-use mathlib.Core.Logic.{⊎_elim}
 use mathlib.Core.List.{List, map}
 use Prim.Native.Nat.{ℕ, ◌+◌, ◌<◌}
 use native.Mathlib.Omega.{arith}
@@ -92,8 +91,8 @@ loop-b-preserved c =
     let size = made.gather_clause-gathered.auto.seen ∙ turn.invariant.marks in
     let written = ap (λ (m : ℕ). take m made.gather_clause-gathered.new.codes) (sym puts) ∙ told.written in
     elim c.if-not-gathered.branch [
-      then-not-gathered w ↦ rw (w.codes-is, w.n-is, puts, ends) (normalising_kept turn.invariant test inside _ size room told.older written (sym ignored ∙ not-true _ w.if-not-gathered.true))
-    | else-not-gathered w ↦ rw (w.codes-is, w.n-is, ends) (normalising_ignored turn.invariant test inside _ size room told.older written (sym ignored ∙ not-false _ w.if-not-gathered.false))
+      | then-not-gathered w ↦ rw (w.codes-is, w.n-is, puts, ends) (normalising_kept turn.invariant test inside _ size room told.older written (sym ignored ∙ not-true _ w.if-not-gathered.true))
+      | else-not-gathered w ↦ rw (w.codes-is, w.n-is, ends) (normalising_ignored turn.invariant test inside _ size room told.older written (sym ignored ∙ not-false _ w.if-not-gathered.false))
     ]
 
 pub shape_of-codes : goal.shape_of-codes

@@ -1,6 +1,5 @@
 use mathlib.Core.Path.{◌≡◌, sym, ◌∙◌}
-use mathlib.Core.Logic.{⊎_elim}
-use mathlib.Core.Bool.{false, true≢false}
+use mathlib.Core.Bool.{true≢false}
 use native.Mathlib.Omega.{arith}
 use Rattle.gates.proofs.LiteralPlaces.{goes_past}
 use Rattle.gates.proofs.same.has_stop.Goals as goal
@@ -10,13 +9,12 @@ pub loop-i-init : goal.loop-i-init
 loop-i-init c = (c.requires.0, λ e p f. f)
 
 pub loop-i-preserved : goal.loop-i-preserved
-loop-i-preserved c =
-    (
+loop-i-preserved c = (
   omega (arith, c.loop-i-test.true),
   λ e. elim c.if-is_stop.branch [
-      then-is_stop w ↦ absurd (true≢false (sym w.found-is ∙ e))
+    | then-is_stop w ↦ absurd (true≢false (sym w.found-is ∙ e))
     | else-is_stop w ↦ goes_past _ _ _ (sym c.is_stop.ensures ∙ w.if-is_stop.false) _ (c.loop-i.invariant.1 (sym w.found-is ∙ e))
-    ],
+  ],
 )
 
 pub returns : goal.returns

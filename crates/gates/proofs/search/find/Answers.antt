@@ -1,5 +1,4 @@
 use mathlib.Core.Path.{◌≡◌, sym, ◌∙◌}
-use mathlib.Core.Logic.{⊎_elim}
 use mathlib.Core.Bool.{true, false}
 use Prim.Native.Nat.{◌+◌, ◌-◌, ◌<◌}
 use native.Mathlib.Omega.{arith}
@@ -72,22 +71,22 @@ clauses-preserved c =
     let step = c.literals in
     goes_on
     (same_no _ _
-    (step.invariant ∙ all_no c.args.q.now step.i step.m _ c.literals-test.true (rw c.flipped.ensures at (sym c.holds.ensures ∙ not-true _ c.if-not-holds.true-raw))))
+    (step.invariant ∙ all_no c.args.q.now step.i step.m _ c.literals-test.true (rw c.flipped.ensures at (sym c.holds.ensures ∙ c.if-not-holds.true))))
 
 pub literals-preserved : goal.literals-preserved
 literals-preserved c =
     let step = c.literals in
-    step.invariant ∙ all_on c.args.q.now step.i step.m _ c.literals-test.true (rw c.flipped.ensures at (sym c.holds.ensures ∙ not-false _ c.if-not-holds.false-raw))
+    step.invariant ∙ all_on c.args.q.now step.i step.m _ c.literals-test.true (rw c.flipped.ensures at (sym c.holds.ensures ∙ c.if-not-holds.false))
 
 -- where the loop is left
 ended : (c : Joined-n-b) → Ended c.args.codes.now (masked c.args.mask c.args.q.now) c.if-n-b.found
 ended c =
     elim c.if-n-b.branch [
-      then-n-b w ↦ nowhere c.clauses.invariant.passed w.if-n-b.true w.found-is
-    | else-n-b+else-literal-ne0+else-literals-test w ↦
-        let there_all : within (masked c.args.mask c.args.q.now) (clause_at c.args.codes.now c.clauses.b) ≡ true =
-            w.literals.invariant ∙ all_end c.args.q.now w.literals.i w.literals.m _ w.literals-test.false in
-        rw w.found-is (there c.clauses.invariant.passed (omega (arith, w.if-n-b.false)) (same_ended _ _ _ _ (masked_length _ _) c.requires.once there_all (sym w.literal.ensures ∙ w.if-literal-ne0.false)))
+      | then-n-b w ↦ nowhere c.clauses.invariant.passed w.if-n-b.true w.found-is
+      | else-n-b+else-literal-ne0+else-literals-test w ↦
+          let there_all : within (masked c.args.mask c.args.q.now) (clause_at c.args.codes.now c.clauses.b) ≡ true =
+          w.literals.invariant ∙ all_end c.args.q.now w.literals.i w.literals.m _ w.literals-test.false in
+          rw w.found-is (there c.clauses.invariant.passed (omega (arith, w.if-n-b.false)) (same_ended _ _ _ _ (masked_length _ _) c.requires.once there_all (sym w.literal.ensures ∙ w.if-literal-ne0.false)))
     ]
 
 pub returns-then-found-n : goal.returns-then-found-n

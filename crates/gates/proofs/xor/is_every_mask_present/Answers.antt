@@ -11,10 +11,10 @@ loop-m-init c = λ k h. let z : k ≡ 0 = omega arith in rw z (mask_none _ _ c.r
 
 pub returns-then-not-is_mask_present : goal.returns-then-not-is_mask_present
 returns-then-not-is_mask_present c =
-    sym (mask_fails (clauses_in c.args.codes.now) c.args.clause.now c.loop-m.m (sym c.is_mask_present.ensures ∙ not-true _ c.if-not-is_mask_present.true-raw))
+    sym (mask_fails (clauses_in c.args.codes.now) c.args.clause.now c.loop-m.m (sym c.is_mask_present.ensures ∙ c.if-not-is_mask_present.true))
 
 pub loop-m-preserved : goal.loop-m-preserved
-loop-m-preserved c = below_more _ _ c.loop-m.invariant (sym c.is_mask_present.ensures ∙ not-false _ c.if-not-is_mask_present.false-raw)
+loop-m-preserved c = below_more _ _ c.loop-m.invariant (sym c.is_mask_present.ensures ∙ c.if-not-is_mask_present.false)
 
 pub returns : goal.returns
 returns c =

@@ -1,0 +1,40 @@
+use mathlib.Core.Path.{sym, ◌∙◌}
+use Rattle.closure.proofs.tally.Joining.{join_clashed, join_same, join_inverses, join_first, join_second}
+use Rattle.closure.proofs.tally.Tally.join.Goals as goal
+
+pub returns-then-self : goal.returns-then-self
+returns-then-self c =
+    let s = c.args in
+    let x = c.lead_of-x in
+    let y = c.lead_of-y in
+    join_clashed s.leads.now s.self s.a s.b x.result y.result x.ensures y.ensures c.if-self.true
+
+pub returns-then-x-y : goal.returns-then-x-y
+returns-then-x-y c =
+    let s = c.args in
+    let x = c.lead_of-x in
+    let y = c.lead_of-y in
+    join_same s.leads.now s.self s.a s.b x.result y.result x.ensures y.ensures c.if-self.false c.if-x-y.true
+
+pub returns-then-x-y-2 : goal.returns-then-x-y-2
+returns-then-x-y-2 c =
+    let s = c.args in
+    let x = c.lead_of-x in
+    let y = c.lead_of-y in
+    join_inverses s.leads.now s.self s.a s.b x.result y.result x.ensures y.ensures c.if-self.false c.if-x-y.false c.if-x-y-2.true
+
+pub returns-then-leads_both : goal.returns-then-leads_both
+returns-then-leads_both c =
+    let s = c.args in
+    let x = c.lead_of-x in
+    let y = c.lead_of-y in
+    rw c.fewer.ensures
+    (join_first s.leads.now s.self s.a s.b x.result y.result x.ensures y.ensures c.if-self.false c.if-x-y.false c.if-x-y-2.false (sym c.leads_both.ensures ∙ c.if-leads_both.true) _ c.replace_all.ensures)
+
+pub returns : goal.returns
+returns c =
+    let s = c.args in
+    let x = c.lead_of-x in
+    let y = c.lead_of-y in
+    rw c.fewer-2.ensures
+    (join_second s.leads.now s.self s.a s.b x.result y.result x.ensures y.ensures c.if-self.false c.if-x-y.false c.if-x-y-2.false (sym c.leads_both.ensures ∙ c.if-leads_both.false) _ c.replace_all-2.ensures)
