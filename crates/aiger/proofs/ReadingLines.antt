@@ -245,9 +245,9 @@ module _ (text : List ℕ) (row : List ℤ) where
           lines_from u o k =
               subst⁻¹
               (λ (o : Option Header). read_lines row (circuit_lines h text)
-                ≡ decide (refused row)
-                (accepted row (sizes_of (the_circuit (circuit_lines (the_header o) text))) (entries_of (the_circuit (circuit_lines (the_header o) text))))
-                (header_bad o ∷ place_test LatchesOrOutputs (bad_count (the_header o)) ∷ line_tests row (circuit_lines (the_header o) text)))
+              ≡ decide (refused row)
+              (accepted row (sizes_of (the_circuit (circuit_lines (the_header o) text))) (entries_of (the_circuit (circuit_lines (the_header o) text))))
+              (header_bad o ∷ place_test LatchesOrOutputs (bad_count (the_header o)) ∷ line_tests row (circuit_lines (the_header o) text)))
               k (rw (fine, eq-eqb _ _ none-there, eq-eqb _ _ u))
 
           pub lines_decide : h.outputs ≡ 1 → read_lines row (circuit_lines h text) ≡ reading text row
