@@ -26,6 +26,21 @@ use Rattle.closure.proofs.Going.{found_marked}
 use Rattle.closure.proofs.table.Tables.{empty_table}
 use Rattle.closure.proofs.run.KeptRounds.{tables_anew, tables_kept, tables_done}
 
+-- the rows of the tables
+abbrev pub and_rows : Slots → List ℕ → List ℕ → List ℕ → List ℕ → AndRows
+and_rows n keys slots next heads = record { count = n.ands; keys = keys; slots = slots; next = next; heads = heads }
+
+abbrev pub xor_rows : Slots → List ℕ → List ℕ → List ℕ → List ℕ → XorRows
+xor_rows n keys sums next heads = record { count = n.xors; keys = keys; sums = sums; next = next; heads = heads }
+
+abbrev pub side_rows : Slots → List ℕ → List ℕ → List ℕ → List ℕ → List ℕ → List ℕ → SideRows
+side_rows n sides likes mate_next mate_heads like_next like_heads =
+    record { count = n.sides; sides = sides; likes = likes; mate_next = mate_next; mate_heads = mate_heads; like_next = like_next; like_heads = like_heads }
+
+-- no table has more slots taken than it has
+abbrev pub Few : Slots → Type 0
+Few n = (n.ands ≤ max_entries) × (n.xors ≤ max_entries) × (n.sides ≤ 2 * max_entries)
+
 -- the rooms of the rows
 pub record Rooms (seen list held holders : List ℕ) (a : AndRows) (x : XorRows) (s : SideRows) : Type 0 where
   pub seen_room : length seen ≡ max_entries

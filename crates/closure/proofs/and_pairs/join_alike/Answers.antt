@@ -60,8 +60,8 @@ loop-k-preserved c =
     let o = c.slot_before-k.ensures in
     let told = c.is_alike.ensures.told in (
       elim c.if-is_alike.branch [
-        then-is_alike g ↦ rw (g.new-is, g.t-is, g.known-is) (λ marks s. walk_joins (w.0 marks s) some o s.ready s.table.are s.at (told_true g.if-is_alike.true told) _ _ g.join-t.ensures)
-      | else-is_alike g ↦ rw (g.new-is, g.t-is, g.known-is) (λ marks s. walk_skips (w.0 marks s) some o (told_false g.if-is_alike.false told))
+        | then-is_alike g ↦ rw (g.new-is, g.t-is, g.known-is) (λ marks s. walk_joins (w.0 marks s) some o s.ready s.table.are s.at (told_true g.if-is_alike.true told) _ _ g.join-t.ensures)
+        | else-is_alike g ↦ rw (g.new-is, g.t-is, g.known-is) (λ marks s. walk_skips (w.0 marks s) some o (told_false g.if-is_alike.false told))
       ],
       c.is_alike.auto.held ∙ w.1,
       c.is_alike.ensures.blank,

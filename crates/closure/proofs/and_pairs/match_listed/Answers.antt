@@ -11,7 +11,6 @@ use Rattle.closure.proofs.and_pairs.AndTables.{clause_begins, clause_ends, claus
 use Rattle.closure.proofs.and_pairs.match_listed.Goals as goal
 use Rattle.closure.proofs.and_pairs.match_listed.Goals.{then-is_and, else-is_and}
 
-
 pub overflow_cast-b : goal.overflow_cast-b
 overflow_cast-b c = omega (arith, c.shared_slice_known-5-1.given c.args.i)
 
@@ -53,26 +52,26 @@ loop-p-preserved c =
     let v = c.loop-p.invariant in
     let l = c.loop-p-test.true in
     elim c.if-is_and.branch [
-      then-is_and w ↦
-        let k = w.match_output-s.auto in
-        let r = w.match_output-s.ensures in
-        rw (w.keys-is, w.slots-is, w.next-is, w.heads-is, w.held-is, w.new-is, w.s-is) (
-          k.keys ∙ v.0,
-          k.slots ∙ v.1,
-          k.next ∙ v.2,
-          k.heads ∙ v.3,
-          k.held ∙ v.4,
-          went_then v.5 r.went,
-          r.table,
-          (rw c.sum_clause-clause.ensures.summed.1 at r.known) _ _ v.7,
-          omega (arith, v.8),
-          omega (arith, v.9, r.few),
-          omega (arith, l),
-          r.blank,
-        )
-    | else-is_and w ↦
-        rw (w.keys-is, w.slots-is, w.next-is, w.heads-is, w.held-is, w.new-is, w.s-is)
-        (v.0, v.1, v.2, v.3, v.4, v.5, v.6, clause_skips v.7 (absent_mark (sym c.is_and.ensures ∙ w.if-is_and.false)), omega (arith, v.8), omega (arith, v.9), omega (arith, l), v.11)
+      | then-is_and w ↦
+          let k = w.match_output-s.auto in
+          let r = w.match_output-s.ensures in
+          rw (w.keys-is, w.slots-is, w.next-is, w.heads-is, w.held-is, w.new-is, w.s-is) (
+            k.keys ∙ v.0,
+            k.slots ∙ v.1,
+            k.next ∙ v.2,
+            k.heads ∙ v.3,
+            k.held ∙ v.4,
+            went_then v.5 r.went,
+            r.table,
+            (rw c.sum_clause-clause.ensures.summed.1 at r.known) _ _ v.7,
+            omega (arith, v.8),
+            omega (arith, v.9, r.few),
+            omega (arith, l),
+            r.blank,
+          )
+      | else-is_and w ↦
+          rw (w.keys-is, w.slots-is, w.next-is, w.heads-is, w.held-is, w.new-is, w.s-is)
+          (v.0, v.1, v.2, v.3, v.4, v.5, v.6, clause_skips v.7 (absent_mark (sym c.is_and.ensures ∙ w.if-is_and.false)), omega (arith, v.8), omega (arith, v.9), omega (arith, l), v.11)
     ]
 
 pub shape_of-new : goal.shape_of-new

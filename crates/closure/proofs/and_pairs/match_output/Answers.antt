@@ -27,7 +27,7 @@ bounds-codes-p c =
 pub first_with-r-requires : goal.first_with-r-requires
 first_with-r-requires c =
     let span : Spans c.args.codes.now c.args.p c.args.clause.start c.args.clause.end = let k = c.requires.summed in
-        spans_at k.1 k.0.ends (omega (arith, k.0.ends, c.requires.ready.marked.ended _ k.0.starts)) in
+    spans_at k.1 k.0.ends (omega (arith, k.0.ends, c.requires.ready.marked.ended _ k.0.starts)) in
     span_low span
 
 pub bounds-marks-r : goal.bounds-marks-r
@@ -44,7 +44,7 @@ returns-then-is_and c =
 pub key_from-key-requires : goal.key_from-key-requires
 key_from-key-requires c =
     let span : Spans c.args.codes.now c.args.p c.args.clause.start c.args.clause.end = let k = c.requires.summed in
-        spans_at k.1 k.0.ends (omega (arith, k.0.ends, c.requires.ready.marked.ended _ k.0.starts)) in
+    spans_at k.1 k.0.ends (omega (arith, k.0.ends, c.requires.ready.marked.ended _ k.0.starts)) in
     let inside : c.args.p < length c.args.codes.now = literal_inside _ _ _ c.requires.summed.1 in
     let low : lead_at c.args.codes.now c.args.old.now c.args.p < 2 * length c.args.old.now + 2 = ready_low c.requires.ready c.args.p inside in
     let s = c in
@@ -54,7 +54,7 @@ key_from-key-requires c =
 pub match_and-requires : goal.match_and-requires
 match_and-requires c =
     let span : Spans c.args.codes.now c.args.p c.args.clause.start c.args.clause.end = let k = c.requires.summed in
-        spans_at k.1 k.0.ends (omega (arith, k.0.ends, c.requires.ready.marked.ended _ k.0.starts)) in
+    spans_at k.1 k.0.ends (omega (arith, k.0.ends, c.requires.ready.marked.ended _ k.0.starts)) in
     let here : AndAt c.args.codes.now c.args.marks.now c.args.p = and-at c.requires.ready.marked _ _ c.requires.summed.1 c.requires.summed.2 in
     let inside : c.args.p < length c.args.codes.now = literal_inside _ _ _ c.requires.summed.1 in
     let low : lead_at c.args.codes.now c.args.old.now c.args.p < 2 * length c.args.old.now + 2 = ready_low c.requires.ready c.args.p inside in

@@ -45,10 +45,13 @@ join-requires-then-s-e c = ready_joins c.requires.by_index.1
 
 pub returns-then-s-e : goal.returns-then-s-e
 returns-then-s-e c =
-    let s = c in record { and = λ _ r i.
-      and_one _ _ _ _ _ _ s.requires.literal_at.1 s.requires.literal_at.0 i r
-      _ c.first_other-q.ensures (omega (arith, c.first_other-q.ensures.high, c.if-q-e.false))
-      _ (rw c.lead_of-y.ensures at c.first_other-s.ensures) c.if-s-e.true _ c.flipped.ensures _ _ c.join-then-s-e.ensures; blank = s.requires.blank_2 }
+    let s = c in record {
+      and = λ _ r i.
+          and_one _ _ _ _ _ _ s.requires.literal_at.1 s.requires.literal_at.0 i r
+          _ c.first_other-q.ensures (omega (arith, c.first_other-q.ensures.high, c.if-q-e.false))
+          _ (rw c.lead_of-y.ensures at c.first_other-s.ensures) c.if-s-e.true _ c.flipped.ensures _ _ c.join-then-s-e.ensures;
+      blank = s.requires.blank_2;
+    }
 
 pub has_clash-requires : goal.has_clash-requires
 has_clash-requires c =
@@ -59,16 +62,22 @@ join-requires-then-has_clash c = ready_joins c.requires.by_index.1
 
 pub returns-then-has_clash : goal.returns-then-has_clash
 returns-then-has_clash c =
-    let s = c in record { and = λ _ r i.
-      and_clash _ _ _ _ _ _ s.requires.literal_at.1 s.requires.literal_at.0 i r
-      _ c.first_other-q.ensures (omega (arith, c.first_other-q.ensures.high, c.if-q-e.false))
-      _ (rw c.lead_of-y.ensures at c.first_other-s.ensures) (omega (arith, c.first_other-s.ensures.high, c.if-s-e.false))
-      (told_true {P = Clash s.args.codes.now s.args.old.now s.args.b s.args.e s.args.p} c.if-has_clash.true c.has_clash.ensures.told) _ _ c.join-then-has_clash.ensures; blank = c.has_clash.ensures.blank }
+    let s = c in record {
+      and = λ _ r i.
+          and_clash _ _ _ _ _ _ s.requires.literal_at.1 s.requires.literal_at.0 i r
+          _ c.first_other-q.ensures (omega (arith, c.first_other-q.ensures.high, c.if-q-e.false))
+          _ (rw c.lead_of-y.ensures at c.first_other-s.ensures) (omega (arith, c.first_other-s.ensures.high, c.if-s-e.false))
+          (told_true {P = Clash s.args.codes.now s.args.old.now s.args.b s.args.e s.args.p} c.if-has_clash.true c.has_clash.ensures.told) _ _ c.join-then-has_clash.ensures;
+      blank = c.has_clash.ensures.blank;
+    }
 
 pub returns : goal.returns
 returns c =
-    let s = c in record { and = λ _ r i.
-      and_none _ _ _ _ _ _ s.requires.literal_at.1 s.requires.literal_at.0 i r
-      _ c.first_other-q.ensures (omega (arith, c.first_other-q.ensures.high, c.if-q-e.false))
-      _ (rw c.lead_of-y.ensures at c.first_other-s.ensures) (omega (arith, c.first_other-s.ensures.high, c.if-s-e.false))
-      (told_false c.if-has_clash.false c.has_clash.ensures.told); blank = c.has_clash.ensures.blank }
+    let s = c in record {
+      and = λ _ r i.
+          and_none _ _ _ _ _ _ s.requires.literal_at.1 s.requires.literal_at.0 i r
+          _ c.first_other-q.ensures (omega (arith, c.first_other-q.ensures.high, c.if-q-e.false))
+          _ (rw c.lead_of-y.ensures at c.first_other-s.ensures) (omega (arith, c.first_other-s.ensures.high, c.if-s-e.false))
+          (told_false c.if-has_clash.false c.has_clash.ensures.told);
+      blank = c.has_clash.ensures.blank;
+    }

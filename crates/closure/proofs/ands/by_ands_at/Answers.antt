@@ -48,11 +48,11 @@ loop-p-preserved c =
     let s = c in
     let v = c.loop-p.invariant in
     elim c.if-is_and.branch [
-      then-is_and w ↦
-        let r = w.by_and-t.ensures in
-        let j = r.and _ (ready_on s.requires.ready v.0) (sym c.is_and.ensures ∙ w.if-is_and.true) in
-        rw (w.held-is, w.new-is, w.t-is) (went_then v.0 j.0, clause_next s.args.marks.now j.0.later v.1 j.1, omega (arith, v.2), w.by_and-t.auto.held ∙ v.3, r.blank)
-    | else-is_and w ↦ rw (w.held-is, w.new-is, w.t-is) (v.0, clause_passed s.args.marks.now v.1 (sym c.is_and.ensures ∙ w.if-is_and.false), omega (arith, v.2), v.3, v.4)
+      | then-is_and w ↦
+          let r = w.by_and-t.ensures in
+          let j = r.and _ (ready_on s.requires.ready v.0) (sym c.is_and.ensures ∙ w.if-is_and.true) in
+          rw (w.held-is, w.new-is, w.t-is) (went_then v.0 j.0, clause_next s.args.marks.now j.0.later v.1 j.1, omega (arith, v.2), w.by_and-t.auto.held ∙ v.3, r.blank)
+      | else-is_and w ↦ rw (w.held-is, w.new-is, w.t-is) (v.0, clause_passed s.args.marks.now v.1 (sym c.is_and.ensures ∙ w.if-is_and.false), omega (arith, v.2), v.3, v.4)
     ]
 
 pub shape_of-new : goal.shape_of-new

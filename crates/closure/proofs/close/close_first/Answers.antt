@@ -24,15 +24,20 @@ slice_bounds-close_codes-end-8 c = let s = c in sym (length-take-le s.args.v s.a
 
 pub close_codes-requires : goal.close_codes-requires
 close_codes-requires c =
-    let s = c in let k = length-take-le s.args.v s.args.leads.now s.requires.v_le_max_nets.1 in record { found = s.requires.found; fits = subst⁻¹ (λ (m : ℕ). Fits m (clauses_in (take s.args.n s.args.codes.now))) k s.requires.fits; leads_len_bound = (
-            subst⁻¹ (λ (m : ℕ). m ≤ max_nets) k s.requires.v_le_max_nets.0,
-            subst⁻¹ (λ (m : ℕ). m ≤ max_entries) (length-take-le s.args.n s.args.codes.now s.requires.n_in_bounds.0) s.requires.n_in_bounds.2,
-          ); len = (
-            length-take-le s.args.v s.args.old.now s.requires.v_le_max_nets.2 ∙ sym k,
-            length-take-le s.args.v s.args.new.now s.requires.v_le_max_nets.3 ∙ sym k,
-            length-take-le s.args.v s.args.older.now s.requires.v_le_max_nets.4 ∙ sym k,
-            length-take-le s.args.v s.args.lows.now s.requires.v_le_max_nets.5 ∙ sym k,
-          ) }
+    let s = c in let k = length-take-le s.args.v s.args.leads.now s.requires.v_le_max_nets.1 in record {
+      found = s.requires.found;
+      fits = subst⁻¹ (λ (m : ℕ). Fits m (clauses_in (take s.args.n s.args.codes.now))) k s.requires.fits;
+      leads_len_bound = (
+        subst⁻¹ (λ (m : ℕ). m ≤ max_nets) k s.requires.v_le_max_nets.0,
+        subst⁻¹ (λ (m : ℕ). m ≤ max_entries) (length-take-le s.args.n s.args.codes.now s.requires.n_in_bounds.0) s.requires.n_in_bounds.2,
+      );
+      len = (
+        length-take-le s.args.v s.args.old.now s.requires.v_le_max_nets.2 ∙ sym k,
+        length-take-le s.args.v s.args.new.now s.requires.v_le_max_nets.3 ∙ sym k,
+        length-take-le s.args.v s.args.older.now s.requires.v_le_max_nets.4 ∙ sym k,
+        length-take-le s.args.v s.args.lows.now s.requires.v_le_max_nets.5 ∙ sym k,
+      );
+    }
 
 pub returns : goal.returns
 returns c =

@@ -19,18 +19,23 @@ slice_bounds-fill-end-2 c = let s = c in sym (length-take-le max_work s.args.wor
 pub close_first-e-requires : goal.close_first-e-requires
 close_first-e-requires c =
     let s = c in let f = c.find_gates-f in let q = finder_left s.args.v s.args.row.now s.args.leads.now s.args.work.now s.requires.passed _ _ _
-    f.ensures.entries_value f.ensures.codes_after f.ensures.found in let few = le_trans q.few s.requires.passed.entries in record { n_in_bounds = (
+    f.ensures.entries_value f.ensures.codes_after f.ensures.found in let few = le_trans q.few s.requires.passed.entries in record {
+      n_in_bounds = (
         subst⁻¹ (λ (m : ℕ). f.result.entries ≤ m) (f.auto.codes ∙ s.requires.codes_len.0) few,
         subst⁻¹ (λ (m : ℕ). f.result.entries ≤ m) (f.auto.marks ∙ s.requires.codes_len.1) few,
         few,
-      ); found = q.found; fits = q.fits; v_le_max_nets = (
-            s.requires.passed.nets,
-            s.requires.passed.lead_room,
-            subst⁻¹ (λ (m : ℕ). s.args.v ≤ m) s.requires.codes_len.2 s.requires.passed.nets,
-            subst⁻¹ (λ (m : ℕ). s.args.v ≤ m) s.requires.codes_len.3 s.requires.passed.nets,
-            subst⁻¹ (λ (m : ℕ). s.args.v ≤ m) s.requires.codes_len.4 s.requires.passed.nets,
-            subst⁻¹ (λ (m : ℕ). s.args.v ≤ m) s.requires.codes_len.5 s.requires.passed.nets,
-          ) }
+      );
+      found = q.found;
+      fits = q.fits;
+      v_le_max_nets = (
+        s.requires.passed.nets,
+        s.requires.passed.lead_room,
+        subst⁻¹ (λ (m : ℕ). s.args.v ≤ m) s.requires.codes_len.2 s.requires.passed.nets,
+        subst⁻¹ (λ (m : ℕ). s.args.v ≤ m) s.requires.codes_len.3 s.requires.passed.nets,
+        subst⁻¹ (λ (m : ℕ). s.args.v ≤ m) s.requires.codes_len.4 s.requires.passed.nets,
+        subst⁻¹ (λ (m : ℕ). s.args.v ≤ m) s.requires.codes_len.5 s.requires.passed.nets,
+      );
+    }
 
 pub overflow_add-v : goal.overflow_add-v
 overflow_add-v c = let s = c in let h : s.args.v ≤ max_nets = s.requires.passed.nets in omega arith

@@ -24,15 +24,15 @@ loop-q-preserved c =
     let h = c.loop-q-test.true in
     let s = c in
     elim c.if-q-p.branch [
-      then-q-p w ↦
-    let low = s.requires.low.0 c.loop-q.q (omega (arith, h, s.requires.b_le_e.1)) in
-    rw w.held-is (
-      omega (arith, inv.0),
-      omega arith,
-      length-set c.loop-q.held w.lead_of.result s.args.v ∙ inv.2,
-      put_on inv.3 inv.0 w.if-q-p.true _ w.lead_of.ensures (omega (arith, low, w.lead_of.ensures, inv.2, s.requires.low.1)),
-    )
-    | else-q-p w ↦ rw w.held-is (omega (arith, inv.0), omega arith, inv.2, put_skip inv.3 (omega (arith, w.if-q-p.false)))
+      | then-q-p w ↦
+          let low = s.requires.low.0 c.loop-q.q (omega (arith, h, s.requires.b_le_e.1)) in
+          rw w.held-is (
+            omega (arith, inv.0),
+            omega arith,
+            length-set c.loop-q.held w.lead_of.result s.args.v ∙ inv.2,
+            put_on inv.3 inv.0 w.if-q-p.true _ w.lead_of.ensures (omega (arith, low, w.lead_of.ensures, inv.2, s.requires.low.1)),
+          )
+      | else-q-p w ↦ rw w.held-is (omega (arith, inv.0), omega arith, inv.2, put_skip inv.3 (omega (arith, w.if-q-p.false)))
     ]
 
 pub shape_of-held : goal.shape_of-held

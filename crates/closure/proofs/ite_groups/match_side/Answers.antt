@@ -67,7 +67,7 @@ pub loop-j-preserved : goal.loop-j-preserved
 loop-j-preserved c =
     let l = c.loop-j.invariant in
     elim c.if-is_pair.branch [
-      then-is_pair w ↦ (
+      | then-is_pair w ↦ (
         rw w.holders-is (w.match_pair-t.auto.holders ∙ l.0),
         rw w.new-is (w.match_pair-t.auto.new ∙ l.1),
         λ marks m i.
@@ -76,7 +76,7 @@ loop-j-preserved c =
             (mating_on m.hubs_are a c.loop-j-test.true
             (w.match_pair-t.ensures marks (ready_on m.ready a.matching.went) a.matching.holds (told_true w.if-is_pair.true (c.is_pair.ensures marks i (mating_side m.hubs_are a c.loop-j-test.true))))),
       )
-    | else-is_pair w ↦ (
+      | else-is_pair w ↦ (
         rw w.holders-is l.0,
         rw w.new-is l.1,
         λ marks m i.

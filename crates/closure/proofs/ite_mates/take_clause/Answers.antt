@@ -42,15 +42,15 @@ loop-s-preserved c =
     let p = c.requires in
     let k = c.loop-s.invariant in
     elim c.if-is_side.branch [
-      then-is_side w ↦
-        let i = told_true w.if-is_side.true c.is_side.ensures in
-        let r = clause_ready k p.ready.0 in
-        let e = w.take_side-r.ensures in
-        let a = w.take_side-r.auto in
-        rw (w.sides-is, w.likes-is, w.mate_next-is, w.mate_heads-is, w.like_next-is, w.like_heads-is, w.new-is, w.r-is)
-        (clause_taken k p.ready.0 c.loop-s-test.true (e.went _ r k.table i) (e.table _ k.table i) e.joined e.stood e.stays e.few
-        (record { sides = a.sides; likes = a.likes; mate_next = a.mate_next; mate_heads = a.mate_heads; like_next = a.like_next; like_heads = a.like_heads; leads = a.new }))
-    | else-is_side w ↦ rw (w.sides-is, w.likes-is, w.mate_next-is, w.mate_heads-is, w.like_next-is, w.like_heads-is, w.new-is, w.r-is) (clause_passed k c.loop-s-test.true (told_false w.if-is_side.false c.is_side.ensures))
+      | then-is_side w ↦
+          let i = told_true w.if-is_side.true c.is_side.ensures in
+          let r = clause_ready k p.ready.0 in
+          let e = w.take_side-r.ensures in
+          let a = w.take_side-r.auto in
+          rw (w.sides-is, w.likes-is, w.mate_next-is, w.mate_heads-is, w.like_next-is, w.like_heads-is, w.new-is, w.r-is)
+          (clause_taken k p.ready.0 c.loop-s-test.true (e.went _ r k.table i) (e.table _ k.table i) e.joined e.stood e.stays e.few
+          (record { sides = a.sides; likes = a.likes; mate_next = a.mate_next; mate_heads = a.mate_heads; like_next = a.like_next; like_heads = a.like_heads; leads = a.new }))
+      | else-is_side w ↦ rw (w.sides-is, w.likes-is, w.mate_next-is, w.mate_heads-is, w.like_next-is, w.like_heads-is, w.new-is, w.r-is) (clause_passed k c.loop-s-test.true (told_false w.if-is_side.false c.is_side.ensures))
     ]
 
 pub shape_of-sides : goal.shape_of-sides

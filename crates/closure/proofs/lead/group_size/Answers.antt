@@ -16,8 +16,8 @@ pub loop-i-preserved : goal.loop-i-preserved
 loop-i-preserved c =
     let inv = c.loop-i.invariant in
     elim c.if-leads-i.branch [
-      then-leads-i w ↦ (w.n-is ∙ ap (λ (n : ℕ). n + 1) inv.0 ∙ size_more _ _ _ w.if-leads-i.true, omega arith, omega (arith, w.n-is))
-    | else-leads-i w ↦ (w.n-is ∙ inv.0 ∙ size_same _ _ _ w.if-leads-i.false, omega arith, omega (arith, w.n-is))
+      | then-leads-i w ↦ (w.n-is ∙ ap (λ (n : ℕ). n + 1) inv.0 ∙ size_more _ _ _ w.if-leads-i.true, omega arith, omega (arith, w.n-is))
+      | else-leads-i w ↦ (w.n-is ∙ inv.0 ∙ size_same _ _ _ w.if-leads-i.false, omega arith, omega (arith, w.n-is))
     ]
 
 pub returns : goal.returns

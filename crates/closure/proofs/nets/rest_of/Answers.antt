@@ -8,6 +8,7 @@ use Rattle.rules.specs.Answer.{lead_of}
 use Rattle.closure.specs.Xors.{others, rest_of}
 use Rattle.closure.proofs.xors.XorRests.{rest_begins, rest_skips, rest_goes_on, rest_digits, rest_room}
 use Rattle.closure.proofs.nets.rest_of.Goals as goal
+use Rattle.closure.proofs.nets.rest_of.Goals.{then-q-p, else-q-p}
 
 pub loop-i-init : goal.loop-i-init
 loop-i-init c = let s = c.args in (omega arith, rest_begins s.old.now s.codes.now s.b s.p)
@@ -33,19 +34,19 @@ pub loop-i-preserved : goal.loop-i-preserved
 loop-i-preserved c =
     let s = c.args in
     let l = c.loop-i in
-    ⊎_elim
-    (λ w. (
-      omega (arith, c.loop-i-test.true),
-      rest_goes_on s.old.now s.codes.now s.b s.p l.i c.if-q-p.r w.0.taken
-          (w.4
-          ∙ w.3.ensures (lead_of s.old.now) (get_or s.codes.now (s.b + l.i) 0) (others s.codes.now s.p s.b l.i) (sym w.2.ensures)
-          (rest_digits c.requires l.i l.invariant.0) l.invariant.1),
-    ))
-    (λ w. (
-      omega (arith, c.loop-i-test.true),
-      rest_skips s.old.now s.codes.now s.b s.p l.i c.if-q-p.r w.0.left (w.1 ∙ l.invariant.1),
-    ))
-    c.if-q-p.branch
+    elim c.if-q-p.branch [
+      | then-q-p w ↦ (
+        omega (arith, c.loop-i-test.true),
+        rest_goes_on s.old.now s.codes.now s.b s.p l.i c.if-q-p.r w.if-q-p.true
+            (w.r-is
+            ∙ w.with-r.ensures (lead_of s.old.now) (get_or s.codes.now (s.b + l.i) 0) (others s.codes.now s.p s.b l.i) (sym w.lead_of.ensures)
+            (rest_digits c.requires l.i l.invariant.0) l.invariant.1),
+      )
+      | else-q-p w ↦ (
+        omega (arith, c.loop-i-test.true),
+        rest_skips s.old.now s.codes.now s.b s.p l.i c.if-q-p.r w.if-q-p.false (w.r-is ∙ l.invariant.1),
+      )
+    ]
 
 pub returns : goal.returns
 returns c =

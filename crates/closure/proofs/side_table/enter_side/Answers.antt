@@ -13,8 +13,13 @@ stands_for-requires c =
 
 pub returns-then-stands_for : goal.returns-then-stands_for
 returns-then-stands_for c =
-    record { table = λ marks t i. t; stood = c.stands_for.ensures c.if-stands_for.true _ _ (mates_same (sym c.select_of-c.ensures) (sym c.output_of.ensures) (table_mates c.requires.by_index.1 c.select_of-c.result c.output_of.result c.like_key-like.result c.mate_bucket-b.result c.mate_bucket-b.ensures.0 c.mate_bucket-b.ensures.1))
-        (like_now _ _ _ c.select_of-c.ensures c.then_of.ensures c.like_key-like.ensures); stays = extends_none _ _ _; few = omega arith }
+    record {
+      table = λ marks t i. t;
+      stood = c.stands_for.ensures c.if-stands_for.true _ _ (mates_same (sym c.select_of-c.ensures) (sym c.output_of.ensures) (table_mates c.requires.by_index.1 c.select_of-c.result c.output_of.result c.like_key-like.result c.mate_bucket-b.result c.mate_bucket-b.ensures.0 c.mate_bucket-b.ensures.1))
+          (like_now _ _ _ c.select_of-c.ensures c.then_of.ensures c.like_key-like.ensures);
+      stays = extends_none _ _ _;
+      few = omega arith;
+    }
 
 pub enter-requires : goal.enter-requires
 enter-requires c =

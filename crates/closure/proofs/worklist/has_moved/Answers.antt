@@ -14,8 +14,8 @@ pub loop-w-preserved : goal.loop-w-preserved
 loop-w-preserved c =
     λ e.
     elim c.if-older-w.branch [
-      then-older-w t ↦ absurd (true≢false (sym t.any-is ∙ e))
-    | else-older-w t ↦ upto_on (c.loop-w.invariant (sym t.any-is ∙ e)) (not_moved _ _ _ t.if-older-w.false)
+      | then-older-w t ↦ absurd (true≢false (sym t.any-is ∙ e))
+      | else-older-w t ↦ upto_on (c.loop-w.invariant (sym t.any-is ∙ e)) (not_moved _ _ _ t.if-older-w.false)
     ]
 
 pub returns : goal.returns

@@ -25,6 +25,11 @@ release_list-requires c =
 
 pub returns : goal.returns
 returns c =
-    let a = c.args in let p = c.requires in let y = c.list_moved-s in let w = y.ensures.list in record { list = (omega (arith, working_fits w, w.low, p.codes_in_bounds), working_starts w (omega (arith, y.auto.list, p.codes_in_bounds)), w.span); holds = λ marks x.
-            holds_changed a.codes.now marks a.starts.now a.reads.now a.occurs.now a.links.now a.older.now a.old.now y.new.seen x p.older_len.1 p.older_len.0 y.ensures.told
-            (take y.result.clauses y.new.list) (working_rest w (omega (arith, y.auto.list, p.codes_in_bounds))); seen = λ q. c.release_list.ensures q (working_rest w (omega (arith, y.auto.list, p.codes_in_bounds)) q); room = working_fits w }
+    let a = c.args in let p = c.requires in let y = c.list_moved-s in let w = y.ensures.list in record {
+      list = (omega (arith, working_fits w, w.low, p.codes_in_bounds), working_starts w (omega (arith, y.auto.list, p.codes_in_bounds)), w.span);
+      holds = λ marks x.
+          holds_changed a.codes.now marks a.starts.now a.reads.now a.occurs.now a.links.now a.older.now a.old.now y.new.seen x p.older_len.1 p.older_len.0 y.ensures.told
+          (take y.result.clauses y.new.list) (working_rest w (omega (arith, y.auto.list, p.codes_in_bounds)));
+      seen = λ q. c.release_list.ensures q (working_rest w (omega (arith, y.auto.list, p.codes_in_bounds)) q);
+      room = working_fits w;
+    }

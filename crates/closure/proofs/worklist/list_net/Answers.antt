@@ -37,8 +37,8 @@ pub list_clause-s-requires : goal.list_clause-s-requires
 list_clause-s-requires c =
     let inside : c.loop-k.k - 1 < length c.args.codes.now = let o = c.requires.by_index_2 in omega (arith, (c.loop-k.invariant.4 o.0 o.2).low, c.loop-k-test.true) in
     let start : Starts c.args.codes.now (get_or c.args.starts.now (c.loop-k.k - 1) 0) = let o = c.requires.by_index_2 in
-        let x = c.requires.by_index.0 in
-        clause-of c.args.codes.now x.0 c.args.starts.now c.args.reads.now x.1 c.args.links.now x.2 o.0 (c.loop-k.k - 1) o.1 inside ((c.loop-k.invariant.4 o.0 o.2).at c.loop-k-test.true) in
+    let x = c.requires.by_index.0 in
+    clause-of c.args.codes.now x.0 c.args.starts.now c.args.reads.now x.1 c.args.links.now x.2 o.0 (c.loop-k.k - 1) o.1 inside ((c.loop-k.invariant.4 o.0 o.2).at c.loop-k-test.true) in
     let p = c.requires in let i = c.loop-k.invariant in record { ended = (p.by_index.1, start); codes_in_bounds = (omega (arith, i.0, p.codes_in_bounds), omega (arith, i.1, p.codes_in_bounds), p.codes_in_bounds.2); working = i.2 }
 
 pub offset_bounds-links-at : goal.offset_bounds-links-at
@@ -69,23 +69,23 @@ loop-k-preserved c =
     let t = c.loop-k-test.true in
     let tells = c.tells.ensures in
     elim c.if-tells.branch [
-      then-tells w ↦
-        let e = w.list_clause-s in
-        rw (w.seen-is, w.list-is, w.s-is) (
-          e.auto.seen ∙ i.0,
-          e.auto.list ∙ i.1,
-          e.ensures.list,
-          λ p h. e.ensures.seen.0 p (i.3 p h),
-          λ v o. list_next a.codes.now a.starts.now a.reads.now x.1 a.links.now a.constant v l.k l.seen e.new.seen x.2.chains e.ensures.seen.0 t (λ h. e.ensures.seen.1) (i.4 v o),
-        )
-    | else-tells w ↦
-        rw (w.seen-is, w.list-is, w.s-is) (
-          i.0,
-          i.1,
-          i.2,
-          i.3,
-          λ v o. list_next a.codes.now a.starts.now a.reads.now x.1 a.links.now a.constant v l.k l.seen l.seen x.2.chains (λ p h. h) t (λ h. absurd (true≢false (sym (tells h) ∙ w.if-tells.false))) (i.4 v o),
-        )
+      | then-tells w ↦
+          let e = w.list_clause-s in
+          rw (w.seen-is, w.list-is, w.s-is) (
+            e.auto.seen ∙ i.0,
+            e.auto.list ∙ i.1,
+            e.ensures.list,
+            λ p h. e.ensures.seen.0 p (i.3 p h),
+            λ v o. list_next a.codes.now a.starts.now a.reads.now x.1 a.links.now a.constant v l.k l.seen e.new.seen x.2.chains e.ensures.seen.0 t (λ h. e.ensures.seen.1) (i.4 v o),
+          )
+      | else-tells w ↦
+          rw (w.seen-is, w.list-is, w.s-is) (
+            i.0,
+            i.1,
+            i.2,
+            i.3,
+            λ v o. list_next a.codes.now a.starts.now a.reads.now x.1 a.links.now a.constant v l.k l.seen l.seen x.2.chains (λ p h. h) t (λ h. absurd (true≢false (sym (tells h) ∙ w.if-tells.false))) (i.4 v o),
+          )
     ]
 
 pub shape_of-seen : goal.shape_of-seen

@@ -31,11 +31,10 @@ loop-p-init c =
 
 pub take_literal-s-requires : goal.take_literal-s-requires
 take_literal-s-requires c =
-    let s = c.requires in let e = c.clause_end-end.ensures in let both = (
-      listing_packable _ _ s.ready s.are_starts.0 s.are_starts.1 s.xor_table s.xors_known e s.i_in_bounds (sym c.is_xor.ensures ∙ c.if-not-is_xor.false) c.loop-p.invariant c.loop-p-test.true,
-      listing_room _ _ s.ready s.are_starts.0 s.are_starts.1 s.xor_table s.xors_known e s.i_in_bounds (sym c.is_xor.ensures ∙ c.if-not-is_xor.false) c.loop-p.invariant c.loop-p-test.true,
-    ) in
-    record { packable = both.0; room = both.1.0; joins_bound = both.1.1 }
+    let s = c.requires in
+    let e = c.clause_end-end.ensures in
+    let room = listing_room _ _ s.ready s.are_starts.0 s.are_starts.1 s.xor_table s.xors_known e s.i_in_bounds (sym c.is_xor.ensures ∙ c.if-not-is_xor.false) c.loop-p.invariant c.loop-p-test.true in
+    record { packable = listing_packable _ _ s.ready s.are_starts.0 s.are_starts.1 s.xor_table s.xors_known e s.i_in_bounds (sym c.is_xor.ensures ∙ c.if-not-is_xor.false) c.loop-p.invariant c.loop-p-test.true; room = room.0; joins_bound = room.1 }
 
 pub loop-p-smaller : goal.loop-p-smaller
 loop-p-smaller c = omega (arith, c.loop-p-test.true)

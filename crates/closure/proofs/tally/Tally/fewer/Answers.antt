@@ -1,4 +1,3 @@
-
 use Rattle.closure.proofs.tally.Tally.fewer.Goals as goal
 
 pub returns-then-self-eq0 : goal.returns-then-self-eq0
