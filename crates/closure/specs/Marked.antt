@@ -1,6 +1,6 @@
 -- A row of clauses whose marks are right: some clauses of a list, with the gates found in the list. Only inner contracts cite these.
 -- Assumes nothing.
-use Rattle.std.specs.Prelude.{◌≡◌, ◌⊎◌, true, List, [], ◌∷◌, ℕ, ◌+◌, ◌≤◌, ◌<◌, length, get_or}
+use Rattle.std.specs.Prelude.{◌≡◌, ◌⊎◌, true, List, [], ◌∷◌, ℕ, ◌+◌, ◌<◌, length, get_or}
 use Rattle.clauses.specs.Code.{negate}
 use Rattle.clauses.specs.Clause.{Present}
 use Rattle.clauses.specs.Listing.{Fits}

@@ -1,6 +1,6 @@
 -- Rules 5 and 6 in the making: XORs are matched by what is left of them without one literal. Only inner contracts cite these.
 -- Assumes nothing.
-use Rattle.std.specs.Prelude.{◌≡◌, ◌≢◌, ◌⊎◌, not, cond, List, ℕ, ◌+◌, ◌*◌, ◌≤◌, ◌<◌, ltb, length, get_or, set}
+use Rattle.std.specs.Prelude.{◌≡◌, ◌≢◌, ◌⊎◌, not, cond, List, ℕ, ◌+◌, ◌*◌, ◌<◌, ltb, length, get_or, set}
 use Rattle.clauses.specs.Listing.{Fits}
 use Rattle.clauses.specs.Sign.{flip}
 use Rattle.rules.specs.Answer.{lead_of}

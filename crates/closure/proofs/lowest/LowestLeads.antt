@@ -4,15 +4,15 @@ use mathlib.Core.Path.{◌≡◌, refl, sym, ◌∙◌, ap, subst, subst⁻¹}
 use mathlib.Core.Logic.{◌≢◌, ◌⊎◌, inl, inr}
 use mathlib.Core.Bool.{Bool, true, false}
 use mathlib.Core.List.{List}
-use Prim.Native.Nat.{ℕ, suc, ◌+◌, ◌*◌, ◌-◌, ◌/◌, ◌≤◌, ◌<◌}
+use Prim.Native.Nat.{ℕ, suc, ◌+◌, ◌*◌, ◌-◌, ◌≤◌, ◌<◌}
 use native.Mathlib.Omega.{arith}
-use native.Mathlib.Decide.{ℕ_discrete, dec_le, dec_lt}
+use native.Mathlib.Decide.{ℕ_discrete, dec_le}
 use lib.ListN.{length, get_or, set, length-set, replicate}
 use lib.Seq.{get_or-set_same, get_or-set_other}
 use Rattle.clauses.specs.Code.{negate, net, nets_of}
 use Rattle.clauses.specs.Listing.{Fits}
 use Rattle.clauses.specs.Sign.{flip, is_inverse}
-use Rattle.clauses.proofs.Codes.{net_double, negate_other, same_net}
+use Rattle.clauses.proofs.Codes.{negate_other, same_net}
 use Rattle.clauses.proofs.Signs.{plain_net, code_split, net_flip}
 use Rattle.rules.specs.Answer.{lead_of, own, no_lead}
 use Rattle.rules.specs.Compute.{ended, closed}

@@ -12,7 +12,7 @@ use lib.Seq.{get_or-set_same, get_or-set_other}
 use Rattle.clauses.specs.Row.{clause_at, Starts, LiteralAt, around}
 use Rattle.clauses.proofs.Rows.{starts_apart}
 use Rattle.clauses.proofs.Around.{around_last, around_next}
-use Rattle.gates.specs.Found.{is_and, is_select_next, is_select_after, is_xor}
+use Rattle.gates.specs.Found.{is_select_next, is_select_after, is_xor}
 use Rattle.closure.specs.Changes.{TiedAt, ReadAt}
 use Rattle.closure.specs.Occurrences.{FirstTwo, Ties, Thens, Reads, PlaceListed, PlacesListed, Indexed}
 

@@ -1,9 +1,8 @@
 use mathlib.Core.Path.{refl, sym, ◌∙◌}
-use mathlib.Core.Logic.{⊎_elim}
-use Prim.Native.Nat.{ℕ, ◌+◌, ◌≤◌, ◌<◌}
+use Prim.Native.Nat.{◌+◌, ◌<◌}
 use native.Mathlib.Omega.{arith}
 use lib.ListN.{length, get_or}
-use Rattle.clauses.specs.Row.{clause_at, Starts, LiteralAt}
+use Rattle.clauses.specs.Row.{clause_at, Starts}
 use Rattle.closure.proofs.Going.{went_none, went_then, went_size, ready_on}
 use Rattle.closure.proofs.held.Holding.{ready_low}
 use Rattle.closure.proofs.and_pairs.AndPairs.{absent_mark}

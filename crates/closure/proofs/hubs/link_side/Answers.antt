@@ -1,6 +1,5 @@
 use native.Mathlib.Omega.{arith}
 use native.Mathlib.Nat.{mod-lt}
-use borrow.Author.Tests.{not-true, not-false}
 use Rattle.closure.specs.IteSides.{IsSide}
 use Rattle.closure.proofs.Tests.{told_true, told_false}
 use Rattle.closure.proofs.ite_sides.SideNumbers.{hub_passed, hub_linked}

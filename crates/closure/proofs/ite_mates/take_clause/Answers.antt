@@ -1,4 +1,3 @@
-use mathlib.Core.Logic.{⊎_elim}
 use native.Mathlib.Omega.{arith}
 use Rattle.closure.proofs.Tests.{told_true, told_false}
 use Rattle.closure.proofs.Going.{went_none}

@@ -1,7 +1,5 @@
 use mathlib.Core.Path.{sym, ◌∙◌}
-use mathlib.Core.Bool.{true}
 use native.Mathlib.Omega.{arith}
-use Rattle.gates.specs.Found.{is_and}
 use Rattle.closure.proofs.ands.AndOutputs.{and_further}
 use Rattle.closure.proofs.literals.first_and.Goals as goal
 

@@ -1,5 +1,4 @@
 use mathlib.Core.Path.{◌∙◌, sym}
-use Rattle.closure.specs.Passing.{is_other}
 use Rattle.closure.proofs.literals.Searches.{passed_begin, passed_on, first_here, first_none}
 use Rattle.closure.proofs.literals.first_other.Goals as goal
 

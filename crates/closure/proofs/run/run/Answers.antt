@@ -1,21 +1,14 @@
 use mathlib.Core.Path.{◌≡◌, refl, sym, ◌∙◌, ap}
-use mathlib.Core.Logic.{⊎_elim}
-use mathlib.Core.Bool.{true}
 use mathlib.Core.List.{List}
-use Prim.Native.Nat.{ℕ, ◌*◌, ◌≤◌, ◌<◌}
+use Prim.Native.Nat.{ℕ, ◌≤◌}
 use native.Mathlib.Omega.{arith}
-use lib.ListN.{length, get_or, take}
+use lib.ListN.{length, take}
 use lib.Seq.{length-take-le}
 use Rattle.clauses.specs.Limit.{max_entries}
-use Rattle.clauses.specs.Clause.{clauses_in}
 use Rattle.clauses.proofs.Fills.{zero_at}
-use Rattle.closure.specs.Making.{Making, fresh}
-use Rattle.closure.specs.Marked.{Ready, Went}
-use Rattle.closure.specs.RowJoined.{RowJoined}
-use Rattle.closure.specs.SideTable.{GroupJoined}
-use Rattle.closure.specs.KeptTables.{AndRows, XorRows, SideRows, Tables}
+use Rattle.closure.specs.Making.{fresh}
+use Rattle.closure.specs.KeptTables.{AndRows, XorRows, SideRows}
 use Rattle.closure.specs.Rounds.{Starting}
-use Rattle.closure.specs.declared.run.Slots.{Slots}
 use Rattle.closure.proofs.Going.{found_marked, went_then, ready_on}
 use Rattle.closure.proofs.run.RoundStarts.{found_nets, row_ready, row_making}
 use Rattle.closure.proofs.run.Loop.{between_sizes, is_over, loop_begins, few_made, next_starts, round_followed, fewer_left}

@@ -1,5 +1,4 @@
 use native.Mathlib.Omega.{arith}
-use Rattle.closure.specs.Worklist.{has_moved}
 use Rattle.closure.proofs.literals.Searches.{passed_begin, upto_over}
 use Rattle.closure.proofs.worklist.skip_unmoved.Goals as goal
 

@@ -1,6 +1,5 @@
 use mathlib.Core.Path.{sym, ◌∙◌}
 use native.Mathlib.Omega.{arith}
-use borrow.Author.Tests.{not-true, not-false}
 use Rattle.closure.proofs.xors.ListedXors.{listed_skipped, listing_begins, listing_packable, listing_room, listing_on, listing_ends}
 use Rattle.closure.proofs.xors.take_listed.Goals as goal
 

@@ -13,7 +13,7 @@ pub put_bytes-values-requires : goal.put_bytes-values-requires
 unfolding names_line
 put_bytes-values-requires c =
     let parts : length (sheet_text c.args.v (answer_of c.args.s c.args.leads.now)) ≡ length names_line + (length (values_line c.args.v (answer_of c.args.s [])) + length (lead_lines c.args.s.verdict c.args.leads.now)) = sheet_length c.args.v (answer_of c.args.s c.args.leads.now)
-        ∙ ap (λ (l : List ℕ). length names_line + (length l + length (lead_lines c.args.s.verdict c.args.leads.now))) (sym (values_alone c.args.v c.args.s c.args.leads.now)) in
+    ∙ ap (λ (l : List ℕ). length names_line + (length l + length (lead_lines c.args.s.verdict c.args.leads.now))) (sym (values_alone c.args.v c.args.s c.args.leads.now)) in
     omega (arith, c.requires.leads_in_bounds, parts)
 
 -- src/lines.rt:128:9
@@ -21,7 +21,7 @@ pub put_values-table-requires : goal.put_values-table-requires
 unfolding names_line
 put_values-table-requires c =
     let parts : length (sheet_text c.args.v (answer_of c.args.s c.args.leads.now)) ≡ length names_line + (length (values_line c.args.v (answer_of c.args.s [])) + length (lead_lines c.args.s.verdict c.args.leads.now)) = sheet_length c.args.v (answer_of c.args.s c.args.leads.now)
-        ∙ ap (λ (l : List ℕ). length names_line + (length l + length (lead_lines c.args.s.verdict c.args.leads.now))) (sym (values_alone c.args.v c.args.s c.args.leads.now)) in
+    ∙ ap (λ (l : List ℕ). length names_line + (length l + length (lead_lines c.args.s.verdict c.args.leads.now))) (sym (values_alone c.args.v c.args.s c.args.leads.now)) in
     omega (arith, c.requires.leads_in_bounds, c.put_bytes-values.ensures.end, c.put_bytes-values.auto.text, parts)
 
 -- src/lines.rt:129:5
@@ -29,7 +29,7 @@ pub put_leads-requires : goal.put_leads-requires
 unfolding names_line
 put_leads-requires c =
     let parts : length (sheet_text c.args.v (answer_of c.args.s c.args.leads.now)) ≡ length names_line + (length (values_line c.args.v (answer_of c.args.s [])) + length (lead_lines c.args.s.verdict c.args.leads.now)) = sheet_length c.args.v (answer_of c.args.s c.args.leads.now)
-        ∙ ap (λ (l : List ℕ). length names_line + (length l + length (lead_lines c.args.s.verdict c.args.leads.now))) (sym (values_alone c.args.v c.args.s c.args.leads.now)) in
+    ∙ ap (λ (l : List ℕ). length names_line + (length l + length (lead_lines c.args.s.verdict c.args.leads.now))) (sym (values_alone c.args.v c.args.s c.args.leads.now)) in
     record { leads_in_bounds = omega (arith, c.requires.leads_in_bounds, c.put_bytes-values.ensures.end, c.put_bytes-values.auto.text, c.put_values-table.ensures.end, c.put_values-table.auto.text, parts); leads_len_bound = c.requires.leads_len_bound }
 
 -- src/lines.rt:121:1
