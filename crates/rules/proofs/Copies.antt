@@ -1,28 +1,25 @@
--- A design and its copy are found equal: each net is joined to its copy after as many rounds as its level, and a comparison of outputs then joins
--- T to F.
+-- A design and its copy are found equal: each net is joined to its copy after as many rounds as its level.
 -- Assumes nothing.
-use mathlib.Core.Path.{◌≡◌, refl, sym, ◌∙◌, ap, subst, subst⁻¹, subst₂}
+use mathlib.Core.Path.{◌≡◌, sym, ◌∙◌, ap, subst, subst⁻¹, subst₂}
 use mathlib.Core.Logic.{◌≢◌, ◌⊎◌, inl, inr}
-use mathlib.Core.Bool.{true, false}
+use mathlib.Core.Bool.{false}
 use mathlib.Core.List.Memᴰ
 use mathlib.Core.List.{List, [], ◌∷◌, ◌++◌, map, Memᴰ}
 use Prim.Native.Nat.{ℕ, zero, suc, ◌*◌, ◌≤◌, ◌<◌}
 use native.Mathlib.Omega.{arith}
 use native.Mathlib.Decide.{ℕ_discrete}
-use native.Mathlib.Nat.{not-suc-le-zero, le_of_suc-le-suc}
 use lib.ListN.{length-map}
 use Rattle.clauses.specs.Code.{negate, net}
 use Rattle.clauses.specs.Clause.{Mem, Within, Included}
 use Rattle.clauses.specs.Lists.{Pick, first, later}
 use Rattle.clauses.specs.Sign.{plus, flip, is_inverse}
 use Rattle.clauses.proofs.Lists.{in_first, in_second, in_third, mem_map, mem_of_map}
-use Rattle.clauses.proofs.Codes.{negate_negate, net_negate, net_double, negate_other, same_net}
+use Rattle.clauses.proofs.Codes.{net_negate, net_double, negate_other, same_net}
 use Rattle.clauses.proofs.Signs.{code_split, same_net_flip}
 use Rattle.gates.proofs.Ands.{Two}
 use Rattle.gates.proofs.Renamed.{flip_image, apart_image}
 use Rattle.rules.specs.Rule.{Cancels, Covers, Concludes}
 use Rattle.rules.specs.Grouping.{After}
-use Rattle.rules.specs.Ending.{Clash}
 use Rattle.rules.specs.Design.{Gate, and, xor, ite, output, inputs, encodings, ProperPins, HoldsGate, Levelized}
 use Rattle.rules.specs.Copy.{copy_of, EqualsCopy, driven, wired, Copied, Differs, by-xor, by-and, by-ands, by_or, Miter, asserted, some_of, opposed}
 use Rattle.rules.proofs.Groupings.{after_same, after_back, after_chain, after_flip, after_clash, after_all, after_grows, after_drawn}
@@ -40,7 +37,7 @@ copies_cancel G ρ (x ∷ ks) h =
 
 module _ {cs : List (List ℕ)} (n : ℕ) where
   -- one more round joins an AND whose inputs are all joined to one of them to that input
-  input_joined : {l : ℕ} {rs : List ℕ} → HoldsGate cs (and l rs) → (r : ℕ) → Mem r rs → ((y : ℕ) → Mem y rs → After cs n y r) → After cs (suc n) l r
+  pub input_joined : {l : ℕ} {rs : List ℕ} → HoldsGate cs (and l rs) → (r : ℕ) → Mem r rs → ((y : ℕ) → Mem y rs → After cs n y r) → After cs (suc n) l r
   input_joined {l} {rs} g r m near = go (one_or_other r rs)
     where
       go : ((y : ℕ) → Mem y rs → y ≡ r) ⊎ ((y : ℕ) × Mem y rs × (y ≢ r)) → After cs (suc n) l r
@@ -51,7 +48,7 @@ module _ {cs : List (List ℕ)} (n : ℕ) where
           (λ s i. inr (near s (ins.inward s i))))
 
   -- and one with inputs that are joined as inverses to F
-  inverses_joined : {l : ℕ} {rs : List ℕ} → HoldsGate cs (and l rs) → (r s : ℕ) → Mem r rs → Mem s rs → After cs n r (negate s) → After cs (suc n) l 0
+  pub inverses_joined : {l : ℕ} {rs : List ℕ} → HoldsGate cs (and l rs) → (r s : ℕ) → Mem r rs → Mem s rs → After cs n r (negate s) → After cs (suc n) l 0
   inverses_joined {l} {rs} g r s i j h = go (ℕ_discrete r s)
     where
       go : Dec (r ≡ s) → After cs (suc n) l 0
@@ -118,7 +115,7 @@ module _ {cs : List (List ℕ)} {gs : List Gate} {ρ level : ℕ → ℕ} (copie
       let is : x ≡ flip s k = same_net_flip x k (sym e) in
       subst₂ (After cs n) (sym is) (sym (ap ρ is ∙ flip_image ρ copied.inverses s k)) (after_flip cs n s k (ρ k) h)
 
-  shared_same : (x : ℕ) → level (net x) ≡ 0 → ρ x ≡ x
+  pub shared_same : (x : ℕ) → level (net x) ≡ 0 → ρ x ≡ x
   shared_same x e =
       ap ρ (code_split x) ∙ flip_image ρ copied.inverses (is_inverse x) (2 * net x) ∙ ap (flip (is_inverse x)) (copied.shared (net x) e) ∙ sym (code_split x)
 
@@ -144,57 +141,6 @@ module _ {cs : List (List ℕ)} {gs : List Gate} {ρ level : ℕ → ℕ} (copie
           match (wired g) =
               by_literal (suc n) x (2 * net x) (net_double (net x))
               (after_drawn cs n (buffer_found g (After cs n) (ρ (2 * net x)) in_first (λ y m. Memᴰ.eq_of_singleton m)))
-
-  -- what says that an output differs from its copy is joined to F
-  differs_false : {n x : ℕ} → Differs cs ρ level n x → After cs n x 0
-  differs_false (by-xor {n = zero} h g) = absurd (not-suc-le-zero h)
-  differs_false (by-xor {n = suc n} {o = o} h g) =
-      after_drawn cs n (Concludes.xor_constant (xor_found g) (Cancels.pair false first (copy_joined n o (le_of_suc-le-suc h)) Cancels.none))
-  differs_false (by-and {n = zero} h g i j) = absurd (not-suc-le-zero h)
-  differs_false (by-and {n = suc n} {o = o} h g i j) =
-      inverses_joined n g o (negate (ρ o)) i j (subst⁻¹ (After cs n o) (negate_negate (ρ o)) (copy_joined n o (le_of_suc-le-suc h)))
-  differs_false (by-ands {n = zero} h g k f i j) = absurd (not-suc-le-zero h)
-  differs_false (by-ands {n = suc n} {o = o} {p = p} {q = q} h g k f i j) =
-      inverses_joined (suc n) f (negate p) (negate q) i j
-      (subst⁻¹ (After cs (suc n) (negate p)) (negate_negate q)
-      (after_chain cs (suc n) (negate p) (negate o) q (after_flip cs (suc n) true p o (input_joined n g o in_first both))
-      (after_back cs (suc n) q (negate o) (input_joined n k (negate o) in_first neither))))
-    where
-      near : After cs n o (ρ o)
-      near = copy_joined n o (le_of_suc-le-suc h)
-
-      both : (y : ℕ) → Mem y (o ∷ ρ o ∷ []) → After cs n y o
-      both y (Memᴰ.head e) = subst⁻¹ (λ (z : ℕ). After cs n z o) e (after_same cs n o)
-      both y (Memᴰ.tail m) = subst⁻¹ (λ (z : ℕ). After cs n z o) (Memᴰ.eq_of_singleton m) (after_back cs n o (ρ o) near)
-
-      neither : (y : ℕ) → Mem y (negate o ∷ negate (ρ o) ∷ []) → After cs n y (negate o)
-      neither y (Memᴰ.head e) = subst⁻¹ (λ (z : ℕ). After cs n z (negate o)) e (after_same cs n (negate o))
-      neither y (Memᴰ.tail m) =
-          subst⁻¹ (λ (z : ℕ). After cs n z (negate o)) (Memᴰ.eq_of_singleton m) (after_flip cs n true (ρ o) o (after_back cs n o (ρ o) near))
-  differs_false (by_or {n = n} {x = x} p m f) =
-      subst (λ (y : ℕ). After cs (suc n) y 0) (negate_negate x)
-      (after_flip cs (suc n) true (negate x) 1 (after_drawn cs n (Concludes.unit p m (λ y i d. differs_false (f y i d)))))
-
-  differs_late : {n x : ℕ} → Differs cs ρ level n x → n ≢ 0
-  differs_late (by-xor h g) e = omega arith
-  differs_late (by-and h g i j) e = omega arith
-  differs_late (by-ands h g k f i j) e = omega arith
-  differs_late (by_or p m f) e = omega arith
-
-  -- If the list says that some output differs from its copy, T is joined to F.
-  pub miter_clash : {n : ℕ} → Miter cs ρ level n → Clash cs n
-  miter_clash (asserted {n = zero} d p) = absurd (differs_late d refl)
-  miter_clash (asserted {n = suc n} {x = x} d p) =
-      after_chain cs (suc n) 1 x 0 (after_back cs (suc n) x 1 (after_drawn cs n (tied_found (After cs n) p))) (differs_false d)
-  miter_clash (some_of {n = n} {c = []} f p) = after_drawn cs n (Concludes.empty_clause p)
-  miter_clash (some_of {n = n} {c = k ∷ c} f p) =
-      after_chain cs (suc n) 1 k 0 (after_back cs (suc n) k 1 (after_drawn cs n (Concludes.unit p in_first (λ x i d. differs_false (f x i)))))
-      (after_grows cs n k 0 (differs_false (f k in_first)))
-  miter_clash (opposed {n = zero} {o = o} h g) = absurd ((g.proper (negate (ρ o)) in_first).0 (net_negate (ρ o) ∙ ap net (shared_same o (omega arith))))
-  miter_clash (opposed {n = suc n} {o = o} h g) =
-      after_clash cs (suc n) (ρ o)
-      (after_chain cs (suc n) (ρ o) o (negate (ρ o)) (after_back cs (suc n) o (ρ o) (copy_joined (suc n) o h))
-      (after_drawn cs n (buffer_found g (After cs n) (negate (ρ o)) in_first (λ y m. Memᴰ.eq_of_singleton m))))
 
 -- A copy under other names: where no two nets of a gate's pins get one name, the copy's pins are as they must be
 

@@ -17,6 +17,7 @@ pub mod RenamedAnswers
 pub mod Designs
 pub mod Comparisons
 pub mod Copies
+pub mod Miters
 pub mod Starred
 pub mod Theorems
 pub mod CopyExamples

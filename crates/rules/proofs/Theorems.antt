@@ -29,7 +29,8 @@ use Rattle.rules.proofs.Closing.{Ran, settled≢contradiction, closed_ran}
 use Rattle.rules.proofs.Answers.{ran_answer, is_answer_once, ran_joined}
 use Rattle.rules.proofs.Truth.{satisfied_apart, ran_true}
 use Rattle.rules.proofs.Bounds.{settled_bounded, ends_bounded, ends_finished, ends_beyond, ends_allowed}
-use Rattle.rules.proofs.Copies.{copy_joined, miter_clash}
+use Rattle.rules.proofs.Copies.{copy_joined}
+use Rattle.rules.proofs.Miters.{miter_clash}
 use Rattle.rules.proofs.RenamedAnswers.{ran_renamed, renamed_agrees}
 use Rattle.rules.proofs.Starred.{starred_computed, starred_fits}
 
