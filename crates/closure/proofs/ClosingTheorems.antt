@@ -38,7 +38,7 @@ use Rattle.rules.proofs.Theorems.{answer_exact, answer_joined, answer_true, cont
 use Rattle.gates.proofs.CountBounds.{counts_few}
 use Rattle.rules.proofs.Groups.{own_length}
 use Rattle.closure.proofs.ClosingTests.{closing_parts, none_holds_fits, never_unfinished, rounds_accepted, accepted_fits, accepted_passed, accepted_outcome}
-use Rattle.closure.proofs.close.Finishing.{passed_findable}
+use Rattle.closure.proofs.Finishing.{passed_findable}
 
 pub leads_length : {v : ℕ} {G : ℕ → ℕ → Type 0} {w : Verdict} {g : ℕ} {l : List ℕ} → Leads v G w g l → length l ≡ v
 leads_length {v} on_contradiction = length-replicate v no_lead

@@ -5,16 +5,16 @@ use mathlib.Core.List.{List}
 use Prim.Native.Nat.{ℕ, ◌≤◌, ◌<◌}
 use lib.ListN.{length, get_or}
 use Rattle.clauses.specs.Code.{net}
-use Rattle.clauses.specs.Row.{LiteralAt}
 use Rattle.clauses.proofs.Clauses.{fits_present}
-use Rattle.clauses.proofs.Rows.{literal_in}
 use Rattle.gates.specs.Found.{Found}
+use Rattle.clauses.specs.Row.{LiteralAt}
+use Rattle.clauses.proofs.Rows.{literal_in}
 use Rattle.closure.specs.Making.{Drawn, Making, JoinedBy}
 use Rattle.closure.specs.Joining.{join_state}
 use Rattle.closure.specs.Marked.{Marked, Ready, Went}
 use Rattle.closure.specs.declared.tally.Tally.{Tally}
-use Rattle.closure.proofs.tally.Making.{joins_room}
-use Rattle.closure.proofs.tally.JoinedBy.{join_carried}
+use Rattle.closure.proofs.Making.{joins_room}
+use Rattle.closure.proofs.JoinedBy.{join_carried}
 
 -- a row that holds the whole list
 pub found_marked : {cs : List (List ℕ)} {row marks : List ℕ} → Found cs row marks → Marked cs row marks

@@ -11,11 +11,11 @@ use Rattle.closure.specs.Making.{Making, Rules}
 use Rattle.closure.specs.Xors.{LeadRow}
 use Rattle.closure.specs.RowJoined.{RowJoined}
 use Rattle.closure.specs.declared.tally.Tally.{Tally}
-use Rattle.closure.proofs.units.Clauses as Clauses
-use Rattle.closure.proofs.ands.AndOutputs as AndOutputs
-use Rattle.closure.proofs.and_pairs.AndPairs as AndPairs
-use Rattle.closure.proofs.xors.XorRules as Xors
-use Rattle.closure.proofs.ite_groups.IteRules as Ites
+use Rattle.closure.proofs.Clauses as Clauses
+use Rattle.closure.proofs.AndOutputs as AndOutputs
+use Rattle.closure.proofs.AndPairs as AndPairs
+use Rattle.closure.proofs.XorRules as Xors
+use Rattle.closure.proofs.IteRules as Ites
 
 pub row_rules : {cs : List (List ℕ)} {row marks old new : List ℕ} {t : Tally} → Found cs row marks → Fits (length old) cs → LeadRow old → length old ≤ max_nets
     → Making cs old new t → RowJoined row marks old new t → Rules cs old new t

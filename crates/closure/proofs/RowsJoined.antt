@@ -5,8 +5,8 @@ use mathlib.Core.Bool.{true}
 use mathlib.Core.List.{List}
 use Prim.Native.Nat.{ℕ}
 use lib.ListN.{get_or}
-use Rattle.clauses.specs.Row.{Starts, LiteralAt}
 use Rattle.gates.specs.Found.{is_and}
+use Rattle.clauses.specs.Row.{Starts, LiteralAt}
 use Rattle.closure.specs.Making.{JoinedBy, Later}
 use Rattle.closure.specs.Passing.{ClauseJoined, AndJoined}
 use Rattle.closure.specs.Matching.{AndAt, Alike}

@@ -3,8 +3,8 @@
 -- Assumes nothing.
 use Rattle.std.specs.Prelude.{◌≡◌, ◌≢◌, ◌⊎◌, true, List, ℕ, ◌+◌, length, get_or}
 use Rattle.clauses.specs.Code.{net}
-use Rattle.clauses.specs.Row.{clause_at, LiteralAt, around}
 use Rattle.gates.specs.Found.{is_and, is_select_next, is_select_after, is_xor}
+use Rattle.clauses.specs.Row.{clause_at, LiteralAt, around}
 use Rattle.rules.specs.Answer.{lead_of}
 use Rattle.closure.specs.Passing.{lead_at}
 

@@ -1,19 +1,20 @@
--- A row with an entry for each lead, that holds the leads of a clause's literals, all of them or all but one: 1 for a lead that it holds, else 0. It is
--- lent and given back holding none. Only inner contracts cite these.
+-- A row with an entry for each lead, that holds the leads of a clause's literals but one: 1 for a lead that it holds, else 0. It is lent and
+-- given back holding none. Only inner contracts cite these.
 -- Assumes nothing.
 use Rattle.std.specs.Prelude.{◌≡◌, ◌≢◌, ◌⊎◌, List, ℕ, ◌+◌, ◌*◌, ◌≤◌, ◌<◌, length, get_or}
 use Rattle.clauses.specs.Code.{negate}
-use Rattle.closure.specs.Passing.{lead_at, Clash}
+use Rattle.clauses.specs.Limit.{max_nets}
+use Rattle.closure.specs.Passing.{lead_at}
 
--- the row holds none, and has an entry for each code of the nets that have leads
-abbrev pub Blank : List ℕ → List ℕ → Type 0
-Blank old held = ((x : ℕ) → get_or held x 0 ≡ 0) × (2 * length old + 2 ≤ length held)
+-- the row holds none
+abbrev pub Blank : List ℕ → Type 0
+Blank held = ((x : ℕ) → get_or held x 0 ≡ 0) × (2 * max_nets + 2 ≤ length held)
 
 -- every lead at a place of the row of literals has an entry
 abbrev pub Low : List ℕ → List ℕ → Type 0
-Low row old = (q : ℕ) → q < length row → lead_at row old q < 2 * length old + 2
+Low row old = (q : ℕ) → q < length row → lead_at row old q < 2 * max_nets + 2
 
--- a place from b up to e, other than p, has the lead x; where p is e, none is left out
+-- a place from b up to e, other than p, has the lead x
 pub record Among (row old : List ℕ) (b e p x : ℕ) : Type 0 where
   pub place : ℕ
   pub low : b ≤ place
@@ -21,26 +22,11 @@ pub record Among (row old : List ℕ) (b e p x : ℕ) : Type 0 where
   pub apart : place ≢ p
   pub lead : lead_at row old place ≡ x
 
--- three different leads other than F stand at the places from b up to e
-pub record ThreeLeads (row old : List ℕ) (b e : ℕ) : Type 0 where
-  pub x : ℕ
-  pub y : ℕ
-  pub z : ℕ
-  pub x_in : Among row old b e e x
-  pub y_in : Among row old b e e y
-  pub z_in : Among row old b e e z
-  pub some : (x ≢ 0) × (y ≢ 0) × (z ≢ 0)
-  pub different : (y ≢ x) × (z ≢ x) × (z ≢ y)
-
--- .. and no literals there clash: rule 3 draws nothing from their ANDs
-abbrev pub Idle : List ℕ → List ℕ → ℕ → ℕ → Type 0
-Idle row old b e = ThreeLeads row old b e × (¬ Clash row old b e e)
-
 -- the row holds the leads of these places
 pub record Holds (row old : List ℕ) (b e p : ℕ) (held : List ℕ) : Type 0 where
   pub each : (x : ℕ) → Among row old b e p x → get_or held x 0 ≡ 1
   pub only : (x : ℕ) → get_or held x 0 ≢ 0 → Among row old b e p x
-  pub room : 2 * length old + 2 ≤ length held
+  pub room : 2 * max_nets + 2 ≤ length held
 
 -- the entries of the leads of these places have become v, the others are as they were
 pub record Put (row old : List ℕ) (b e p v : ℕ) (held held' : List ℕ) : Type 0 where

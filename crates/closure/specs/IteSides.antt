@@ -4,8 +4,9 @@
 use Rattle.std.specs.Prelude.{◌≡◌, ◌≢◌, Bool, true, cond, List, ℕ, ◌+◌, ◌*◌, ◌/◌, ◌%◌, ◌≤◌, ◌<◌, eqb, length, get_or}
 use Rattle.clauses.specs.Code.{negate}
 use Rattle.clauses.specs.Chains.{ChainedIn}
-use Rattle.clauses.specs.Row.{clause_at, LiteralAt, start_of, around}
 use Rattle.gates.specs.Found.{is_select_next, is_select_after}
+use Rattle.clauses.specs.Row.{clause_at, LiteralAt, around}
+use Rattle.clauses.specs.Row.{start_of}
 
 -- place p holds a literal of a clause of three, which is ended
 pub record InThree (row : List ℕ) (p : ℕ) : Type 0 where

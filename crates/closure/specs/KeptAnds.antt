@@ -1,7 +1,7 @@
 -- The table of ANDs that is kept from round to round. A slot's set is compared when it is met, so that slots of earlier rounds do no harm. Only inner
 -- contracts cite these.
 -- Assumes nothing.
-use Rattle.std.specs.Prelude.{◌≡◌, ◌⊎◌, Bool, true, List, ℕ, ◌≤◌, ◌<◌, length, get_or}
+use Rattle.std.specs.Prelude.{◌≡◌, Bool, true, List, ℕ, ◌≤◌, ◌<◌, length, get_or}
 use Rattle.clauses.specs.Row.{start_of}
 use Rattle.closure.specs.Making.{JoinedBy}
 use Rattle.closure.specs.Matching.{AndAt, Alike, Signature, spread_of}
@@ -56,13 +56,3 @@ pub record AndsKnown (row marks old new : List ℕ) (t : Tally) (list : List ℕ
   pub represented : (p : ℕ) → AndAt row marks p → Past list i (start_of row p) → Represented row old new t count keys slots p
   pub pairs : (p q : ℕ) → AndAt row marks p → AndAt row marks q → Past list i (start_of row p) → Past list i (start_of row q) → OnList list (start_of row p) → Alike row old p q
       → JoinedBy new t (get_or row p 0) (get_or row q 0)
-
--- the pass over the list is done with place q: with its clause, or it is below p in the clause at b
-abbrev pub DoneTo : List ℕ → List ℕ → ℕ → ℕ → ℕ → ℕ → Type 0
-DoneTo row list i b p q = Past list i (start_of row q) ⊎ ((start_of row q ≡ b) × (q < p))
-
--- the ANDs at these places are represented, and those of listed clauses have been joined with all of these that have their sets
-pub record ClauseTo (row marks old new : List ℕ) (t : Tally) (list : List ℕ) (i b p count : ℕ) (keys slots : List ℕ) : Type 0 where
-  pub represented : (q : ℕ) → AndAt row marks q → DoneTo row list i b p q → Represented row old new t count keys slots q
-  pub pairs : (q r : ℕ) → AndAt row marks q → AndAt row marks r → DoneTo row list i b p q → DoneTo row list i b p r → OnList list (start_of row q) → Alike row old q r
-      → JoinedBy new t (get_or row q 0) (get_or row r 0)

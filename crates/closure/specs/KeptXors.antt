@@ -11,7 +11,6 @@ use Rattle.closure.specs.declared.tally.Tally.{Tally}
 pub record XorSlot (row marks old : List ℕ) (key sum : ℕ) : Type 0 where
   pub leads : List ℕ
   pub are : LeadRow leads
-  pub size : length leads ≡ length old
   pub grown : Grown leads old
   pub start : ℕ
   pub place : ℕ

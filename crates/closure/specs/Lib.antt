@@ -20,4 +20,3 @@ pub mod KeptTables
 pub mod Closing
 pub mod Passed
 pub mod Rounds
-pub mod Lowest

@@ -23,13 +23,12 @@ pub record Making (cs : List (List ℕ)) (old row : List ℕ) (t : Tally) : Type
   pub size : length row ≡ length old
   pub inverse : (c : ℕ) → lead_of row (negate c) ≡ negate (lead_of row c)
   pub again : (c : ℕ) → lead_of row (lead_of row c) ≡ lead_of row c
-  pub inside : (c : ℕ) → net c ≤ length row → net (lead_of row c) ≤ length row
+  pub low : (c : ℕ) → net (lead_of row c) ≤ net c
   pub sound : (a b : ℕ) → lead_of row a ≡ lead_of row b → Drawn cs old a b
   pub still : (a b : ℕ) → Kernel old a b → lead_of row a ≡ lead_of row b
   pub clash_drawn : t.clash ≡ true → Drawn cs old 1 0
   pub groups_are : t.groups ≡ length (own (length old) row)
   pub joins_are : t.groups + t.joins ≡ length (own (length old) old)
-  pub unmoved : t.joins ≡ 0 → row ≡ old
 
 -- the tally of a round that starts with so many groups
 abbrev pub fresh : ℕ → Tally

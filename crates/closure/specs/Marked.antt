@@ -1,12 +1,13 @@
 -- A row of clauses whose marks are right: some clauses of a list, with the gates found in the list. Only inner contracts cite these.
 -- Assumes nothing.
-use Rattle.std.specs.Prelude.{◌≡◌, ◌⊎◌, true, List, [], ◌∷◌, ℕ, ◌+◌, ◌<◌, length, get_or}
+use Rattle.std.specs.Prelude.{◌≡◌, ◌⊎◌, true, List, [], ◌∷◌, ℕ, ◌+◌, ◌≤◌, ◌<◌, length, get_or}
+use Rattle.clauses.specs.Limit.{max_nets, max_entries}
 use Rattle.clauses.specs.Code.{negate}
 use Rattle.clauses.specs.Clause.{Present}
 use Rattle.clauses.specs.Listing.{Fits}
-use Rattle.clauses.specs.Row.{clause_at, Starts, LiteralAt, around}
 use Rattle.gates.specs.Gate.{AndGate, XorGate, IteGate}
 use Rattle.gates.specs.Found.{is_and, is_select_next, is_select_after, is_xor, is_pair}
+use Rattle.clauses.specs.Row.{clause_at, Starts, LiteralAt, around}
 use Rattle.closure.specs.Making.{Making, Later}
 use Rattle.closure.specs.Xors.{LeadRow}
 use Rattle.closure.specs.declared.tally.Tally.{Tally}
@@ -42,9 +43,8 @@ pub record Ready (row marks old new : List ℕ) (t : Tally) : Type 0 where
   pub fits : Fits (length old) of
   pub making : Making of old new t
   pub leads : LeadRow old
-  -- the hashes of all codes can be summed, and a side's number has 32 bits
-  pub nets : length old < 2047
-  pub entries : length row < 2147483648
+  pub nets : length old ≤ max_nets
+  pub entries : length row ≤ max_entries
 
 -- the round has gone on by conclusions that the row's clauses and gates draw
 pub record Went (row marks old new : List ℕ) (t : Tally) (new' : List ℕ) (t' : Tally) : Type 0 where

@@ -1,11 +1,12 @@
 -- ANDs compared by the sets of their inputs' leads. Only inner contracts cite these.
 -- Assumes nothing.
-use Rattle.std.specs.Prelude.{◌≡◌, ◌≢◌, Bool, true, false, cond, List, ℕ, suc, ◌+◌, ◌-◌, ◌*◌, ◌%◌, ◌<◌, eqb, length, get_or}
-use Rattle.clauses.specs.Row.{clause_at, Starts, LiteralAt, start_of}
+use Rattle.std.specs.Prelude.{◌≡◌, ◌≢◌, true, cond, List, ℕ, suc, ◌+◌, ◌*◌, ◌%◌, ◌<◌, eqb, length, get_or}
+use Rattle.clauses.specs.Limit.{max_nets}
 use Rattle.gates.specs.Found.{is_and}
+use Rattle.clauses.specs.Row.{clause_at, LiteralAt}
+use Rattle.clauses.specs.Row.{start_of}
 use Rattle.closure.specs.Passing.{lead_at}
 use Rattle.closure.specs.Holding.{Among, Holds}
-use Rattle.closure.specs.declared.signature.SummedClause.{SummedClause}
 
 -- place p holds a literal, and its clause is ended
 pub record Placed (row : List ℕ) (p : ℕ) : Type 0 where
@@ -51,13 +52,9 @@ pub data SumBelow (In : ℕ → Type 0) : ℕ → ℕ → Type 0 where
   skip : {n s : ℕ} → ¬ In n → SumBelow In n s → SumBelow In (suc n) s
   take : {n s : ℕ} → In n → SumBelow In n s → SumBelow In (suc n) (s + hash_of n)
 
--- so many hashes add up to a number of 64 bits, and one more can still be added
-abbrev pub summable : ℕ
-summable = 4095
-
 -- s is the signature of the set at p
 abbrev pub Signature : List ℕ → List ℕ → ℕ → ℕ → Type 0
-Signature row old p s = SumBelow (Takes row old p) summable s
+Signature row old p s = SumBelow (Takes row old p) (2 * max_nets + 2) s
 
 -- the hash of a signature
 unfoldable pub spread_of : ℕ → ℕ
@@ -69,18 +66,7 @@ share_of held x = cond (eqb (get_or held x 0) 1) 0 (hash_of x)
 
 -- s is the sum of the hashes of the leads at the places from b up to e, other than p, but for F
 abbrev pub Summed : List ℕ → List ℕ → ℕ → ℕ → ℕ → ℕ → Type 0
-Summed row old b e p s = SumBelow (λ x. Among row old b e p x × (x ≢ 0)) summable s
-
--- c is a clause of the row, with the sum of the hashes of all of its leads but F
-pub record IsSummed (row old : List ℕ) (c : SummedClause) : Type 0 where
-  pub starts : Starts row c.start
-  pub ends : c.end ≡ c.start + length (clause_at row c.start)
-  pub sum_is : Summed row old c.start c.end c.end c.sum
-
--- the sum s without the lead y, unless it stands again
-abbrev pub less_lead : ℕ → ℕ → Bool → ℕ
-less_lead s y true = s
-less_lead s y false = s - hash_of y
+Summed row old b e p s = SumBelow (λ x. Among row old b e p x × (x ≢ 0)) (2 * max_nets + 2) s
 
 -- the lead at place a, if a is not p and it is not F, is one at q
 abbrev pub Common : List ℕ → List ℕ → ℕ → ℕ → ℕ → Type 0

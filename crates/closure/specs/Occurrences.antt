@@ -4,8 +4,8 @@
 use Rattle.std.specs.Prelude.{◌≡◌, ◌≢◌, ◌⊎◌, true, List, ℕ, ◌+◌, ◌≤◌, ◌<◌, length, get_or}
 use Rattle.clauses.specs.Code.{net}
 use Rattle.clauses.specs.Chains.{Chained}
-use Rattle.clauses.specs.Row.{clause_at, LiteralAt, around}
 use Rattle.gates.specs.Found.{is_and, is_select_next, is_select_after, is_xor}
+use Rattle.clauses.specs.Row.{clause_at, LiteralAt, around}
 
 -- the net at place q
 abbrev pub net_at : List ℕ → ℕ → ℕ
@@ -29,7 +29,7 @@ Thens marks b e q =
 -- a rule about the gates of the clause from b up to its ending at e reads the lead at its place q: a gate ties it, or it is that of a select or of a
 -- literal t
 abbrev pub Reads : List ℕ → ℕ → ℕ → ℕ → Type 0
-Reads marks b e q = Ties marks b e q ⊎ ((is_select_next (get_or marks q 0) ≡ true) ⊎ (is_select_after (get_or marks q 0) ≡ true)) ⊎ Thens marks b e q
+Reads marks b e q = Ties marks b e q ⊎ ((2 ≤ get_or marks q 0) ⊎ Thens marks b e q)
 
 -- place q of that clause is listed
 pub record PlaceListed (marks : List ℕ) (b e : ℕ) (starts reads : List ℕ) (q : ℕ) : Type 0 where

@@ -4,9 +4,9 @@
 use Rattle.std.specs.Prelude.{◌≡◌, ◌≢◌, ◌⊎◌, Bool, true, false, not, ◌&&◌, List, ℕ, ◌+◌, ◌≤◌, ◌<◌, eqb, length, get_or}
 use Rattle.clauses.specs.Code.{negate}
 use Rattle.clauses.specs.Clause.{Mem}
-use Rattle.clauses.specs.Row.{clause_at}
 use Rattle.gates.specs.Gate.{Input}
 use Rattle.gates.specs.Found.{is_pair}
+use Rattle.clauses.specs.Row.{clause_at}
 use Rattle.rules.specs.Answer.{lead_of}
 use Rattle.closure.specs.Making.{Kernel, JoinedBy}
 use Rattle.closure.specs.declared.tally.Tally.{Tally}
@@ -18,10 +18,6 @@ lead_at row old q = lead_of old (get_or row q 0)
 -- place q is not `skip`, and its lead is neither F nor y
 unfoldable pub is_other : List ℕ → List ℕ → ℕ → ℕ → ℕ → Bool
 is_other row old skip y q = not (eqb q skip) && (not (eqb (lead_at row old q) 0) && not (eqb (lead_at row old q) y))
-
--- the lead of place q is none of F, x and y
-unfoldable pub is_third : List ℕ → List ℕ → ℕ → ℕ → ℕ → Bool
-is_third row old x y q = not (eqb (lead_at row old q) 0) && (not (eqb (lead_at row old q) x) && not (eqb (lead_at row old q) y))
 
 -- place q is not `skip`, and its lead is x
 unfoldable pub is_with : List ℕ → List ℕ → ℕ → ℕ → ℕ → Bool

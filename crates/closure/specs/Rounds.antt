@@ -1,17 +1,13 @@
 -- Rounds, one after the other: what holds before each of them, and how one leads to the next. Only inner contracts cite these.
 -- Assumes nothing.
-use Rattle.std.specs.Prelude.{◌≡◌, ◌≢◌, Bool, true, false, not, ◌&&◌, List, ℕ, ◌+◌, ◌*◌, ◌≤◌, ◌<◌, eqb, length}
+use Rattle.std.specs.Prelude.{◌≡◌, ◌≢◌, Bool, true, false, not, ◌&&◌, List, ℕ, ◌+◌, ◌*◌, ◌≤◌, ◌<◌, eqb, length, replicate}
 use Rattle.clauses.specs.Limit.{max_nets, max_entries}
 use Rattle.clauses.specs.Clause.{clauses_in}
 use Rattle.clauses.specs.Listing.{Fits}
 use Rattle.gates.specs.Found.{Found}
-use Rattle.rules.specs.Answer.{own}
-use Rattle.rules.specs.Grouping.{After}
-use Rattle.rules.specs.Ending.{Ends}
-use Rattle.rules.specs.declared.Verdict.{Verdict}
+use Rattle.rules.specs.Answer.{no_lead}
 use Rattle.rules.specs.declared.Verdict.TheVariants.{Contradiction, Settled, Unfinished}
-use Rattle.closure.specs.Xors.{LeadRow}
-use Rattle.closure.specs.Making.{Kernel, Making, fresh}
+use Rattle.closure.specs.Making.{Making, fresh}
 use Rattle.closure.specs.RowJoined.{RowJoined}
 use Rattle.closure.specs.declared.tally.Tally.{Tally}
 use Rattle.closure.specs.declared.run.Progress.{Progress}
@@ -41,24 +37,13 @@ unfoldable pub is_still : Tally → Bool
 is_still t = not t.clash && eqb t.joins 0
 
 -- what follows a round: an end, or the next round from its leads
-pub data Followed (limit : ℕ) (s : Progress) (t : Tally) (old new old' older' : List ℕ) : Progress → Type 0 where
-  settled : is_still t ≡ true → old' ≡ old
-      → Followed limit s t old new old' older' (record { verdict = Settled; rounds = s.rounds; groups = s.groups; more = false })
+pub data Followed (limit : ℕ) (s : Progress) (t : Tally) (leads next leads' older' : List ℕ) : Progress → Type 0 where
+  settled : is_still t ≡ true → leads' ≡ leads
+      → Followed limit s t leads next leads' older' (record { verdict = Settled; rounds = s.rounds; groups = s.groups; more = false })
   -- the round that shows a list to be settled may lie past the limit
-  stopped : is_still t ≡ false → s.rounds ≡ limit → old' ≡ old
-      → Followed limit s t old new old' older' (record { verdict = Unfinished; rounds = s.rounds; groups = s.groups; more = false })
-  clashed : is_still t ≡ false → s.rounds < limit → t.clash ≡ true → old' ≡ old
-      → Followed limit s t old new old' older' (record { verdict = Contradiction; rounds = s.rounds + 1; groups = 0; more = false })
-  made : is_still t ≡ false → s.rounds < limit → t.clash ≡ false → old' ≡ new → older' ≡ old
-      → Followed limit s t old new old' older' (record { verdict = Unfinished; rounds = s.rounds + 1; groups = t.groups; more = true })
-
--- the leads join exactly what G joins
-pub record LeadsOf (leads : List ℕ) (G : ℕ → ℕ → Type 0) : Type 0 where
-  pub are : LeadRow leads
-  pub sound : (a b : ℕ) → Kernel leads a b → G a b
-  pub complete : (a b : ℕ) → G a b → Kernel leads a b
-
--- closing has ended: with which verdict, after so many rounds and with so many groups, and, but for a contradiction, with the leads of the last grouping
-pub data Over (v : ℕ) (cs : List (List ℕ)) (limit : ℕ) (leads : List ℕ) : Verdict → ℕ → ℕ → Type 0 where
-  with_leads : {w : Verdict} {n : ℕ} → w ≢ Contradiction → Ends cs limit w n → length leads ≡ v → LeadsOf leads (After cs n) → Over v cs limit leads w n (length (own v leads))
-  with_none : {n : ℕ} → Ends cs limit Contradiction n → Over v cs limit leads Contradiction n 0
+  stopped : is_still t ≡ false → s.rounds ≡ limit → leads' ≡ leads
+      → Followed limit s t leads next leads' older' (record { verdict = Unfinished; rounds = s.rounds; groups = s.groups; more = false })
+  clashed : is_still t ≡ false → s.rounds < limit → t.clash ≡ true → leads' ≡ replicate (length leads) no_lead
+      → Followed limit s t leads next leads' older' (record { verdict = Contradiction; rounds = s.rounds + 1; groups = 0; more = false })
+  made : is_still t ≡ false → s.rounds < limit → t.clash ≡ false → leads' ≡ next → older' ≡ leads
+      → Followed limit s t leads next leads' older' (record { verdict = Unfinished; rounds = s.rounds + 1; groups = t.groups; more = true })

@@ -2,8 +2,8 @@
 -- Assumes nothing.
 use Rattle.std.specs.Prelude.{◌≡◌, ◌≢◌, ◌⊎◌, true, List, ℕ, ◌*◌, ◌<◌, get_or}
 use Rattle.clauses.specs.Code.{negate}
-use Rattle.clauses.specs.Row.{Starts, LiteralAt, around}
 use Rattle.gates.specs.Found.{is_and, is_select_next, is_select_after}
+use Rattle.clauses.specs.Row.{Starts, LiteralAt, around}
 use Rattle.closure.specs.Making.{Kernel, JoinedBy}
 use Rattle.closure.specs.Passing.{ClauseJoined, AndJoined}
 use Rattle.closure.specs.Matching.{AndAt, Alike}

@@ -92,7 +92,9 @@ pub record SideJoined (row old new : List ℕ) (t : Tally) (count : ℕ) (sides 
 pub record EntryOff (row old : List ℕ) (count : ℕ) (sides likes : List ℕ) (s m : ℕ) : Type 0 where
   pub entry : ℕ
   pub taken : entry < count
-  pub is : IsEntry row sides likes (select_at row s) (output_at row s) (like_of row old s) entry
+  pub select : select_at row (get_or sides entry 0) ≡ select_at row s
+  pub output : output_at row (get_or sides entry 0) ≡ output_at row s
+  pub like : get_or likes entry 0 ≡ like_of row old s
   pub apart : then_at row (get_or sides entry 0) ≢ m
 
 -- entries stand for side s: whatever its literal t is not, that of one of them is not either. So where s makes an ITE with another side, an entry does,

@@ -3,7 +3,8 @@
 -- Assumes nothing.
 use Rattle.std.specs.Prelude.{◌≡◌, ◌≢◌, ◌⊎◌, Bool, true, not, cond, List, [], ◌∷◌, ℕ, zero, suc, ◌+◌, ◌≤◌, ◌<◌, eqb, ltb, length, get_or, take}
 use Rattle.clauses.specs.Chains.{Last}
-use Rattle.clauses.specs.Row.{clause_at, Starts, start_of}
+use Rattle.clauses.specs.Row.{clause_at, Starts}
+use Rattle.clauses.specs.Row.{start_of}
 use Rattle.closure.specs.Making.{Kernel, fresh}
 use Rattle.closure.specs.RowJoined.{RowJoined}
 use Rattle.closure.specs.Occurrences.{net_at}

@@ -1,6 +1,6 @@
 -- Rules 5 and 6 in the making: XORs are matched by what is left of them without one literal. Only inner contracts cite these.
 -- Assumes nothing.
-use Rattle.std.specs.Prelude.{◌≡◌, ◌≢◌, ◌⊎◌, not, cond, List, ℕ, ◌+◌, ◌*◌, ◌<◌, ltb, length, get_or, set}
+use Rattle.std.specs.Prelude.{◌≡◌, ◌≢◌, ◌⊎◌, not, cond, List, ℕ, ◌+◌, ◌*◌, ◌≤◌, ◌<◌, ltb, length, get_or, set}
 use Rattle.clauses.specs.Listing.{Fits}
 use Rattle.clauses.specs.Sign.{flip}
 use Rattle.rules.specs.Answer.{lead_of}
@@ -10,15 +10,15 @@ use Rattle.closure.specs.Xors.{LeadRow, others, rest_of}
 use Rattle.closure.specs.Table.{Table}
 use Rattle.closure.specs.declared.nets.Rest.{Rest}
 use Rattle.closure.specs.declared.tally.Tally.{Tally}
-use Rattle.closure.specs.declared.pass.Pass.{Pass}
+use Rattle.closure.specs.declared.xors.Pass.{Pass}
 
 -- the row has XORs of the list cs, to be read through the old leads
 pub record XorsOf (cs : List (List ℕ)) (row marks old : List ℕ) : Type 0 where
   pub marked : Marked cs row marks
   pub fits : Fits (length old) cs
   pub leads : LeadRow old
-  pub nets : length old < 2047
-  pub entries : length row < 2147483648
+  pub nets : length old ≤ 1024
+  pub entries : length row ≤ 16384
 
 -- the rows that a pass over the XORs writes: the new leads, and a table of keys with a sum in each slot
 pub record Board : Type 0 where

@@ -4,16 +4,16 @@
 use Rattle.std.specs.Prelude.{◌≡◌, Bool, true, not, cond, List, [], ◌∷◌, ℕ, zero, suc, ◌+◌, ◌*◌, ◌≤◌, ◌<◌, eqb, ltb, length, get_or}
 use Rattle.clauses.specs.Code.{negate, net}
 use Rattle.clauses.specs.Sign.{flip, is_inverse, parity}
-use Rattle.clauses.specs.Row.{clause_at, LiteralAt}
 use Rattle.gates.specs.Found.{is_xor}
+use Rattle.clauses.specs.Row.{clause_at, LiteralAt}
 use Rattle.rules.specs.Answer.{lead_of}
 use Rattle.closure.specs.declared.nets.Rest.{Rest}
 
--- a row of leads: a lead leads itself, and the nets that have an entry are led by such nets and constants; any net of a group may lead it
+-- a row of leads: a lead leads itself, and is of the lowest net of its group
 pub record LeadRow (leads : List ℕ) : Type 0 where
   pub inverse : (c : ℕ) → lead_of leads (negate c) ≡ negate (lead_of leads c)
   pub again : (c : ℕ) → lead_of leads (lead_of leads c) ≡ lead_of leads c
-  pub inside : (c : ℕ) → net c ≤ length leads → net (lead_of leads c) ≤ length leads
+  pub low : (c : ℕ) → net (lead_of leads c) ≤ net c
 
 -- a set of nets in ascending order, with net w put in, or taken out if it was in
 unfoldable pub toggled : ℕ → List ℕ → List ℕ

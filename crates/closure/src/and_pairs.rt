@@ -1,24 +1,20 @@
 // Rule 4: ANDs with equal sets of input leads, matched by a table of keys that is kept from round to round. An AND whose set is new to the table gets a slot; slots of earlier rounds stay, and match only where the sets are equal now.
 
-ghost use Rattle.std.specs.Prelude.{◌≡◌, true, List, ℕ, ◌+◌, ◌≤◌, ◌<◌, length, get_or};
-ghost use Rattle.clauses.specs.Row.{clause_at, LiteralAt};
-ghost use Rattle.gates.specs.Found.{is_and};
+ghost use Rattle.std.specs.Prelude.{List, ℕ, ◌+◌, ◌≤◌, ◌<◌, length, get_or};
+ghost use Rattle.clauses.specs.Row.{clause_at};
 ghost use Rattle.closure.specs.Holding.{Blank};
-ghost use Rattle.closure.specs.Matching.{AndAt, IsSummed};
+ghost use Rattle.closure.specs.Matching.{AndAt};
 ghost use Rattle.closure.specs.Marked.{Ready, Went};
 ghost use Rattle.closure.specs.Table.{Extends};
 ghost use Rattle.closure.specs.Worklist.{AreStarts, span_of};
-ghost use Rattle.closure.specs.KeptAnds.{KeyOf, AndTable, Represented, Met, Searching, Searched, AndsKnown, ClauseTo};
+ghost use Rattle.closure.specs.KeptAnds.{AndTable, Represented, Met, Searching, Searched, AndsKnown};
 
 use crate::and_sets::is_alike;
-use crate::lead::lead_of;
-use crate::literals::{first_and, first_with};
-use crate::pass::Pass;
-use crate::signature::{SummedClause, key_from, sum_clause};
+use crate::signature::key_of;
 use crate::table::{enter, last_slot, slot_before};
 use crate::tally::Tally;
+use crate::xors::Pass;
 use clauses::place::clause_end;
-use gates::mark_bits::is_and;
 
 // A round that is being made, and whether a slot has the set of the AND at hand.
 #[derive(Clone, Copy)]
@@ -41,10 +37,10 @@ fn join_alike(
     tally: Tally,
 ) -> Search
     requires by_index { (marks : List ℕ) × Searching codes.now marks old.now keys.now slots.now next.now p last new.old tally }
-    requires blank_2 { Blank old.now held.old }
+    requires blank_2 { Blank held.old }
     ensures searched { (marks : List ℕ) (s : Searching codes.now marks old.now keys.now slots.now next.now p last new.old tally)
         → Searched codes.now marks old.now s.count keys.now slots.now s.key p new.old tally new.new result.tally result.known }
-    ensures blank { Blank old.now held.new }
+    ensures blank { Blank held.new }
 {
     let mut t = tally;
     let mut known = false;
@@ -60,11 +56,10 @@ fn join_alike(
     Search { tally: t, known }
 }
 
-// Rule 4 for the AND at p with this key: it is joined with those of its set, or gets a slot.
+// Rule 4 for the AND at p: it is joined with those of its set, or gets a slot.
 fn match_and(
     codes: &[u32],
     p: usize,
-    key: u64,
     old: &[u32],
     keys: &mut [u64],
     slots: &mut [u32],
@@ -75,17 +70,17 @@ fn match_and(
     pass: Pass,
 ) -> Pass
     requires by_index { (marks : List ℕ) × Ready codes.now marks old.now new.old pass.tally × AndTable codes.now marks pass.count keys.old slots.old next.old heads.old × AndAt codes.now marks p }
-    requires key_of { KeyOf codes.now old.now p key }
-    requires count_in_bounds { (pass.count < length keys.old) × (length keys.old ≤ 4294967295) × Blank old.now held.old }
+    requires count_in_bounds { (pass.count < length keys.old) × (length keys.old ≤ 4294967295) × Blank held.old }
     ensures matched { (marks : List ℕ) → Ready codes.now marks old.now new.old pass.tally → AndTable codes.now marks pass.count keys.old slots.old next.old heads.old → AndAt codes.now marks p
         → Went codes.now marks old.now new.old pass.tally new.new result.tally
         × AndTable codes.now marks result.count keys.new slots.new next.new heads.new }
     ensures met { Met codes.now old.now new.new result.tally pass.count keys.old slots.old p }
     ensures known { Represented codes.now old.now new.new result.tally result.count keys.new slots.new p }
     ensures stays { Extends pass.count keys.old slots.old result.count keys.new slots.new × (result.count ≤ pass.count + 1) }
-    ensures blank { Blank old.now held.new }
+    ensures blank { Blank held.new }
 {
     let count = pass.count;
+    let key = key_of(codes, old, p, held);
     let last = last_slot(keys, next, heads, key);
     let found = join_alike(
         codes, p, old, last, keys, slots, next, held, new, pass.tally,
@@ -100,45 +95,6 @@ fn match_and(
         tally: t,
         count: count + 1,
     }
-}
-
-// Rule 4 for the AND at p of the clause. One at an earlier place with the lead of p has its set, and its output is joined with that at p already.
-fn match_output(
-    codes: &[u32],
-    marks: &[u8],
-    clause: SummedClause,
-    p: usize,
-    old: &[u32],
-    keys: &mut [u64],
-    slots: &mut [u32],
-    next: &mut [u32],
-    heads: &mut [u32],
-    held: &mut [u8],
-    new: &mut [u32],
-    pass: Pass,
-) -> Pass
-    requires ready { Ready codes.now marks.now old.now new.old pass.tally }
-    requires summed { IsSummed codes.now old.now clause × LiteralAt codes.now clause.start p × (is_and (get_or marks.now p 0) ≡ true) }
-    requires and_table { AndTable codes.now marks.now pass.count keys.old slots.old next.old heads.old }
-    requires count_in_bounds { (pass.count < length keys.old) × (length keys.old ≤ 4294967295) × Blank old.now held.old }
-    ensures went { Went codes.now marks.now old.now new.old pass.tally new.new result.tally }
-    ensures table { AndTable codes.now marks.now result.count keys.new slots.new next.new heads.new }
-    ensures known { (list : List ℕ) (i : ℕ) → ClauseTo codes.now marks.now old.now new.old pass.tally list i clause.start p pass.count keys.old slots.old
-        → ClauseTo codes.now marks.now old.now new.new result.tally list i clause.start (p + 1) result.count keys.new slots.new }
-    ensures few { result.count ≤ pass.count + 1 }
-    ensures blank { Blank old.now held.new }
-{
-    let y = lead_of(old, codes[p]);
-    let r = first_with(codes, old, clause.start, clause.end, p, y);
-    if r < p {
-        if is_and(marks[r]) {
-            return pass;
-        }
-    }
-    let key = key_from(clause.sum, y, r < clause.end);
-    match_and(
-        codes, p, key, old, keys, slots, next, heads, held, new, pass,
-    )
 }
 
 // Rule 4 for the ANDs of the clause that entry i of the list names.
@@ -160,27 +116,20 @@ fn match_listed(
     requires are_starts { AreStarts codes.now list.now × (i < length list.now) }
     requires and_table { AndTable codes.now marks.now pass.count keys.old slots.old next.old heads.old }
     requires ands_known { AndsKnown codes.now marks.now old.now new.old pass.tally list.now i pass.count keys.old slots.old }
-    requires i_in_bounds { (pass.count + length (clause_at codes.now (get_or list.now i 0)) ≤ length keys.old) × (length keys.old ≤ 4294967295) × Blank old.now held.old }
+    requires i_in_bounds { (pass.count + length (clause_at codes.now (get_or list.now i 0)) ≤ length keys.old) × (length keys.old ≤ 4294967295) × Blank held.old }
     ensures went { Went codes.now marks.now old.now new.old pass.tally new.new result.tally }
     ensures table { AndTable codes.now marks.now result.count keys.new slots.new next.new heads.new }
     ensures known { AndsKnown codes.now marks.now old.now new.new result.tally list.now (i + 1) result.count keys.new slots.new }
     ensures few { result.count ≤ pass.count + length (clause_at codes.now (get_or list.now i 0)) }
-    ensures blank { Blank old.now held.new }
+    ensures blank { Blank held.new }
 {
     let b = list[i] as usize;
     let e = clause_end(codes, b);
-    let first = first_and(marks, b, e);
-    if first == e {
-        return pass;
-    }
-    let clause = sum_clause(codes, old, b, e, held);
     let mut s = pass;
-    let mut p = first;
+    let mut p = b;
     while p < e {
-        if is_and(marks[p]) {
-            s = match_output(
-                codes, marks, clause, p, old, keys, slots, next, heads, held, new, s,
-            );
+        if marks[p] % 2 == 1 {
+            s = match_and(codes, p, old, keys, slots, next, heads, held, new, s);
         }
         p += 1;
     }
@@ -205,12 +154,12 @@ pub fn by_and_pairs(
     requires are_starts { AreStarts codes.now list.now }
     requires and_table { AndTable codes.now marks.now pass.count keys.old slots.old next.old heads.old }
     requires ands_known { AndsKnown codes.now marks.now old.now new.old pass.tally list.now 0 pass.count keys.old slots.old }
-    requires list_in_bounds { (pass.count + span_of codes.now list.now ≤ length keys.old) × (length keys.old ≤ 4294967295) × Blank old.now held.old }
+    requires list_in_bounds { (pass.count + span_of codes.now list.now ≤ length keys.old) × (length keys.old ≤ 4294967295) × Blank held.old }
     ensures went { Went codes.now marks.now old.now new.old pass.tally new.new result.tally }
     ensures table { AndTable codes.now marks.now result.count keys.new slots.new next.new heads.new }
     ensures known { AndsKnown codes.now marks.now old.now new.new result.tally list.now (length list.now) result.count keys.new slots.new }
     ensures few { result.count ≤ pass.count + span_of codes.now list.now }
-    ensures blank { Blank old.now held.new }
+    ensures blank { Blank held.new }
 {
     let mut s = pass;
     let mut i = 0;

@@ -1,6 +1,7 @@
 // The set of an AND's input leads, T left out, compared with another's.
 
 ghost use Rattle.std.specs.Prelude.{ℕ, ◌+◌, ◌*◌, ◌≤◌, ◌<◌, length};
+ghost use Rattle.clauses.specs.Limit.{max_nets};
 ghost use Rattle.closure.specs.Passing.{Tells};
 ghost use Rattle.closure.specs.Holding.{Blank, Low};
 ghost use Rattle.closure.specs.Matching.{Placed, HasLead, Within, Alike, Common, Held, HoldsAt};
@@ -64,7 +65,7 @@ fn is_narrow_alike(codes: &[u32], old: &[u32], p: usize, q: usize) -> bool
 
 // Whether the lead at place a, if a is not p and it is not F, is held.
 fn is_held(codes: &[u32], old: &[u32], held: &[u8], p: usize, a: usize) -> bool
-    requires { (a < length codes.now) × Low codes.now old.now × (2 * length old.now + 2 ≤ length held.now) }
+    requires { (a < length codes.now) × Low codes.now old.now × (2 * max_nets + 2 ≤ length held.now) }
     ensures { Tells (Held codes.now old.now held.now p a) result }
 {
     if a == p {
@@ -80,7 +81,7 @@ fn is_held(codes: &[u32], old: &[u32], held: &[u8], p: usize, a: usize) -> bool
 // Whether every lead of the inputs at p, but for T, is held.
 fn are_held(codes: &[u32], old: &[u32], held: &[u8], p: usize) -> bool
     requires placed { Placed codes.now p }
-    requires low { Low codes.now old.now × (2 * length old.now + 2 ≤ length held.now) }
+    requires low { Low codes.now old.now × (2 * max_nets + 2 ≤ length held.now) }
     ensures { (q : ℕ) → Placed codes.now q → HoldsAt codes.now old.now q held.now → Tells (Within codes.now old.now p q) result }
 {
     let b = beginning(codes, p);
@@ -98,9 +99,9 @@ fn are_held(codes: &[u32], old: &[u32], held: &[u8], p: usize) -> bool
 // Whether every lead of the inputs at p, but for T, is one of the inputs at q, however many they are.
 fn is_wide_within(codes: &[u32], old: &[u32], p: usize, q: usize, held: &mut [u8]) -> bool
     requires placed { Placed codes.now p × Placed codes.now q }
-    requires low { Low codes.now old.now × Blank old.now held.old }
+    requires low { Low codes.now old.now × Blank held.old }
     ensures told { Tells (Within codes.now old.now p q) result }
-    ensures blank { Blank old.now held.new }
+    ensures blank { Blank held.new }
 {
     let b = beginning(codes, q);
     let e = ending(codes, q);
@@ -113,9 +114,9 @@ fn is_wide_within(codes: &[u32], old: &[u32], p: usize, q: usize, held: &mut [u8
 // Whether the ANDs at p and q have the same set, however many inputs they have.
 fn is_wide_alike(codes: &[u32], old: &[u32], p: usize, q: usize, held: &mut [u8]) -> bool
     requires placed { Placed codes.now p × Placed codes.now q }
-    requires low { Low codes.now old.now × Blank old.now held.old }
+    requires low { Low codes.now old.now × Blank held.old }
     ensures told { Tells (Alike codes.now old.now p q) result }
-    ensures blank { Blank old.now held.new }
+    ensures blank { Blank held.new }
 {
     if !is_wide_within(codes, old, p, q, held) {
         return false;
@@ -135,9 +136,9 @@ fn has_few(codes: &[u32], p: usize) -> bool
 // Whether the ANDs at p and q have the same set.
 pub fn is_alike(codes: &[u32], old: &[u32], p: usize, q: usize, held: &mut [u8]) -> bool
     requires placed { Placed codes.now p × Placed codes.now q }
-    requires low { Low codes.now old.now × Blank old.now held.old }
+    requires low { Low codes.now old.now × Blank held.old }
     ensures told { Tells (Alike codes.now old.now p q) result }
-    ensures blank { Blank old.now held.new }
+    ensures blank { Blank held.new }
 {
     if has_few(codes, p) {
         if has_few(codes, q) {

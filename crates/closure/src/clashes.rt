@@ -1,6 +1,7 @@
-// Clashes among the inputs of an AND: one is joined to F, or two are joined as inverses. Where p is e, no literal is left out as the output.
+// Clashes among the inputs of an AND: one is joined to F, or two are joined as inverses.
 
 ghost use Rattle.std.specs.Prelude.{◌+◌, ◌*◌, ◌≤◌, ◌<◌, length};
+ghost use Rattle.clauses.specs.Limit.{max_nets};
 ghost use Rattle.closure.specs.Passing.{Tells, ClashAt, Clash};
 ghost use Rattle.closure.specs.Holding.{Blank, Low, Holds, HeldClash};
 
@@ -41,7 +42,7 @@ fn has_narrow_clash(codes: &[u32], old: &[u32], b: usize, e: usize, p: usize) ->
 
 // Whether the literal at q is joined to T, or the inverse of its lead is held.
 fn is_held_clash(codes: &[u32], old: &[u32], held: &[u8], p: usize, q: usize) -> bool
-    requires { (q < length codes.now) × Low codes.now old.now × (2 * length old.now + 2 ≤ length held.now) }
+    requires { (q < length codes.now) × Low codes.now old.now × (2 * max_nets + 2 ≤ length held.now) }
     ensures { Tells (HeldClash codes.now old.now held.now p q) result }
 {
     if q == p {
@@ -73,9 +74,9 @@ fn has_held_clash(codes: &[u32], old: &[u32], held: &[u8], b: usize, e: usize, p
 // Whether inputs clash, however many they are.
 fn has_wide_clash(codes: &[u32], old: &[u32], b: usize, e: usize, p: usize, held: &mut [u8]) -> bool
     requires b_le_e { (b ≤ e) × (e ≤ length codes.now) }
-    requires low { Low codes.now old.now × Blank old.now held.old }
+    requires low { Low codes.now old.now × Blank held.old }
     ensures told { Tells (Clash codes.now old.now b e p) result }
-    ensures blank { Blank old.now held.new }
+    ensures blank { Blank held.new }
 {
     hold(codes, old, b, e, p, held);
     let r = has_held_clash(codes, old, held, b, e, p);
@@ -86,9 +87,9 @@ fn has_wide_clash(codes: &[u32], old: &[u32], b: usize, e: usize, p: usize, held
 // Whether an input is joined to F, or two are joined as inverses.
 pub fn has_clash(codes: &[u32], old: &[u32], b: usize, e: usize, p: usize, held: &mut [u8]) -> bool
     requires b_le_e { (b ≤ e) × (e ≤ length codes.now) }
-    requires low { Low codes.now old.now × Blank old.now held.old }
+    requires low { Low codes.now old.now × Blank held.old }
     ensures told { Tells (Clash codes.now old.now b e p) result }
-    ensures blank { Blank old.now held.new }
+    ensures blank { Blank held.new }
 {
     if is_narrow(b, e) {
         return has_narrow_clash(codes, old, b, e, p);

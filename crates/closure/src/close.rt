@@ -1,20 +1,16 @@
 // Closing a clause list.
 
-ghost use Rattle.std.specs.Prelude.{◌≡◌, ◌≢◌, ◌≤◌, length, take, replicate};
+ghost use Rattle.std.specs.Prelude.{◌≡◌, ◌≤◌, length, take};
 ghost use Rattle.clauses.specs.Limit.{max_nets, max_entries};
 ghost use Rattle.clauses.specs.Clause.{clauses_in};
 ghost use Rattle.clauses.specs.Listing.{Fits};
 ghost use Rattle.gates.specs.Found.{Found};
-ghost use Rattle.rules.specs.Answer.{own, no_lead};
+ghost use Rattle.rules.specs.Answer.{own};
 ghost use Rattle.rules.specs.Compute.{ended, closed};
-ghost use Rattle.rules.specs.declared.Verdict.TheVariants.{Contradiction};
-ghost use Rattle.closure.specs.Xors.{LeadRow};
-ghost use Rattle.closure.specs.Lowest.{Lowered};
 ghost use Rattle.closure.specs.Closing.{check_list, closing};
 ghost use Rattle.closure.specs.Passed.{Passed, ClosedTo, close_rounds};
 
 use crate::lead::first_leads;
-use crate::lowest::lowest_leads;
 use crate::run::{Ended, run};
 use clauses::checks::{Check, check_entries, check_sizes};
 use clauses::fill::fill;
@@ -26,9 +22,6 @@ use rules::Verdict;
 
 // Entries of a row of leads.
 const NETS: usize = MAX_NETS as usize;
-
-// The code where there is no lead.
-const NO_LEAD: u32 = 4294967295;
 
 // Entries of the work row (specs/Closing.antt).
 const MAX_WORK: usize = 16384;
@@ -50,45 +43,26 @@ pub enum Closing {
     Refused(Refusal),
 }
 
-// Writes the leads of the answer, from those of the last round; `lows` is lent for it.
-fn write_leads(verdict: Verdict, old: &[u32], lows: &mut [u32], leads: &mut [u32])
-    requires len { (length old.now ≡ length leads.old) × (length lows.old ≡ length leads.old) × (length leads.old ≤ max_nets) }
-    requires lead_row { verdict ≢ Contradiction → LeadRow old.now }
-    ensures none { verdict ≡ Contradiction → leads.new ≡ replicate (length leads.old) no_lead }
-    ensures lowest { verdict ≢ Contradiction → Lowered old.now leads.new }
-{
-    match verdict {
-        Verdict::Contradiction => fill(leads, NO_LEAD),
-        Verdict::Settled => lowest_leads(old, lows, leads),
-        Verdict::Unfinished => lowest_leads(old, lows, leads),
-    }
-}
-
-// Closes the list of a row of codes, and leaves the leads; `old`, `new` and `older` are for those of the rounds, `lows` for the lowest nets of the groups.
+// Closes the list of a row of codes, and leaves the last leads; `next` and `older` are for the leads of other rounds.
 fn close_codes(
     codes: &[u32],
     marks: &[u8],
     limit: u32,
     leads: &mut [u32],
-    old: &mut [u32],
-    new: &mut [u32],
+    next: &mut [u32],
     older: &mut [u32],
-    lows: &mut [u32],
 ) -> Ended
     requires found { Found (clauses_in codes.now) codes.now marks.now }
     requires fits { Fits (length leads.old) (clauses_in codes.now) }
     requires leads_len_bound { (length leads.old ≤ max_nets) × (length codes.now ≤ max_entries) }
-    requires len { (length old.old ≡ length leads.old) × (length new.old ≡ length leads.old) × (length older.old ≡ length leads.old) × (length lows.old ≡ length leads.old) }
+    requires next_len { (length next.old ≡ length leads.old) × (length older.old ≡ length leads.old) }
     ensures leads_after { ended result.verdict result.rounds leads.new ≡ closed (length leads.old) (clauses_in codes.now) limit }
     ensures groups_value { result.groups ≡ length (own (length leads.old) leads.new) }
 {
-    first_leads(old);
-    first_leads(new);
+    first_leads(leads);
+    first_leads(next);
     first_leads(older);
-    let e = run(codes, marks, limit, old, new, older);
-    let verdict = e.verdict;
-    write_leads(verdict, old, lows, leads);
-    e
+    run(codes, marks, limit, leads, next, older)
 }
 
 // Closes the list of the first n codes for V nets.
@@ -99,15 +73,13 @@ fn close_first(
     limit: u32,
     v: usize,
     leads: &mut [u32],
-    old: &mut [u32],
-    new: &mut [u32],
+    next: &mut [u32],
     older: &mut [u32],
-    lows: &mut [u32],
 ) -> Ended
     requires n_in_bounds { (n ≤ length codes.now) × (n ≤ length marks.now) × (n ≤ max_entries) }
     requires found { Found (clauses_in (take n codes.now)) (take n codes.now) (take n marks.now) }
     requires fits { Fits v (clauses_in (take n codes.now)) }
-    requires v_le_max_nets { (v ≤ max_nets) × (v ≤ length leads.old) × (v ≤ length old.old) × (v ≤ length new.old) × (v ≤ length older.old) × (v ≤ length lows.old) }
+    requires v_le_max_nets { (v ≤ max_nets) × (v ≤ length leads.old) × (v ≤ length next.old) × (v ≤ length older.old) }
     ensures { ClosedTo v (clauses_in (take n codes.now)) limit leads.old leads.new result.verdict result.rounds result.groups }
 {
     close_codes(
@@ -115,14 +87,12 @@ fn close_first(
         &marks[..n],
         limit,
         &mut leads[..v],
-        &mut old[..v],
-        &mut new[..v],
+        &mut next[..v],
         &mut older[..v],
-        &mut lows[..v],
     )
 }
 
-// Finds the gates and makes the rounds, of a list that passes tests 5 to 12; test 14. The last rows are for the codes, the marks, the leads of the rounds and the lowest nets of the groups.
+// Finds the gates and makes the rounds, of a list that passes tests 5 to 12; test 14. The last rows are for the codes, the marks and the leads of other rounds.
 fn close_in(
     v: u32,
     row: &[i32],
@@ -131,19 +101,17 @@ fn close_in(
     work: &mut [u32],
     codes: &mut [u32],
     marks: &mut [u8],
-    old: &mut [u32],
-    new: &mut [u32],
+    next: &mut [u32],
     older: &mut [u32],
-    lows: &mut [u32],
 ) -> Closing
     requires passed { Passed v row.now leads.old work.old }
-    requires codes_len { (length codes.old ≡ max_entries) × (length marks.old ≡ max_entries) × (length old.old ≡ max_nets) × (length new.old ≡ max_nets) × (length older.old ≡ max_nets) × (length lows.old ≡ max_nets) }
+    requires codes_len { (length codes.old ≡ max_entries) × (length marks.old ≡ max_entries) × (length next.old ≡ max_nets) × (length older.old ≡ max_nets) }
     ensures { record { result = result; leads = leads.new; work = work.new } ≡ close_rounds v row.now limit leads.old work.old }
 {
     let f = find_gates(row, codes, marks);
     fill(&mut work[..MAX_WORK], 0);
     let e = close_first(
-        codes, marks, f.entries, limit, v as usize, leads, old, new, older, lows,
+        codes, marks, f.entries, limit, v as usize, leads, next, older,
     );
     if v + 1 < e.rounds {
         return Closing::Refused(Refusal::TooManyRounds);
@@ -167,13 +135,10 @@ fn close_rounds(v: u32, row: &[i32], limit: u32, leads: &mut [u32], work: &mut [
 {
     let mut codes = [0u32; MAX_ENTRIES];
     let mut marks = [0u8; MAX_ENTRIES];
-    let mut old = [0u32; NETS];
-    let mut new = [0u32; NETS];
+    let mut next = [0u32; NETS];
     let mut older = [0u32; NETS];
-    let mut lows = [0u32; NETS];
     close_in(
-        v, row, limit, leads, work, &mut codes, &mut marks, &mut old, &mut new, &mut older,
-        &mut lows,
+        v, row, limit, leads, work, &mut codes, &mut marks, &mut next, &mut older,
     )
 }
 

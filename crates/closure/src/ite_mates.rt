@@ -11,9 +11,9 @@ ghost use Rattle.closure.specs.SideTable.{SideTable, MateAt, Mating, SideJoined,
 
 use crate::ite_sides::{is_side, output_of, select_of, then_of};
 use crate::lead::lead_of;
-use crate::pass::Pass;
 use crate::side_table::{enter_side, last_entry, like_key, mate_bucket};
 use crate::tally::Tally;
+use crate::xors::Pass;
 use clauses::place::clause_end;
 use clauses::sign::flipped;
 

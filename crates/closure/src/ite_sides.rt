@@ -6,16 +6,15 @@ ghost use Rattle.closure.specs.Passing.{Tells};
 ghost use Rattle.closure.specs.IteSides.{InThree, next_to, after_next, select_at, output_at, then_at, tells_of, IsSide};
 
 use clauses::sign::flipped;
-use gates::mark_bits::{is_select_after, is_select_next};
 
 // Whether a mark tells of side s.
 fn tells_of(s: usize, mark: u8) -> bool
     ensures { result ≡ tells_of s mark }
 {
     if s % 2 == 0 {
-        return is_select_next(mark);
+        return mark / 2 % 2 == 1;
     }
-    is_select_after(mark)
+    mark / 4 % 2 == 1
 }
 
 // Whether number s is a side.

@@ -1,10 +1,9 @@
 // A row of leads: entry w - 1 is the lead of net w.
 
-ghost use Rattle.std.specs.Prelude.{◌≡◌, map, ◌<◌, length};
+ghost use Rattle.std.specs.Prelude.{◌≡◌, map, ◌≤◌, length};
 ghost use Rattle.clauses.specs.Code.{nets_of};
 ghost use Rattle.rules.specs.Answer.{lead_of};
 ghost use Rattle.rules.specs.Compute.{replace};
-ghost use Rattle.closure.specs.Joining.{size_below, leads_both};
 
 use clauses::sign::{flipped, is_inverse};
 
@@ -20,34 +19,6 @@ pub fn lead_of(leads: &[u32], code: u32) -> u32
         return code;
     }
     flipped(is_inverse(code), leads[w - 1])
-}
-
-// How many nets are in the group of net w.
-fn group_size(leads: &[u32], w: u32) -> usize
-    ensures { result ≡ size_below leads.now w (length leads.now) }
-{
-    let mut n = 0;
-    let mut i = 0;
-    while i < leads.len() {
-        if leads[i] / 2 == w {
-            n += 1;
-        }
-        i += 1;
-    }
-    n
-}
-
-// Whether the lead x leads its group and that of y when they are joined: a constant, else the lead of the larger group.
-pub fn leads_both(leads: &[u32], x: u32, y: u32) -> bool
-    ensures { result ≡ leads_both leads.now x y }
-{
-    if x / 2 == 0 {
-        return true;
-    }
-    if y / 2 == 0 {
-        return false;
-    }
-    group_size(leads, y / 2) <= group_size(leads, x / 2)
 }
 
 // The lead e, after hi and its inverse have become lo and its inverse.
@@ -76,7 +47,7 @@ pub fn replace_all(leads: &mut [u32], hi: u32, lo: u32)
 
 // At first each net leads itself.
 pub fn first_leads(leads: &mut [u32])
-    requires { length leads.old < 2147483648 }
+    requires { length leads.old ≤ 1024 }
     ensures { leads.new ≡ nets_of (length leads.old) }
 {
     let mut i = 0;

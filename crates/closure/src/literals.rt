@@ -1,13 +1,11 @@
-// Searches among the literals of a clause by their old leads, for outputs of ANDs, and for its start and its ending.
+// Searches among the literals of a clause by their old leads, and for its start and its ending.
 
-ghost use Rattle.std.specs.Prelude.{◌≡◌, true, ℕ, ◌≤◌, ◌<◌, length, get_or};
+ghost use Rattle.std.specs.Prelude.{◌≡◌, ◌≤◌, ◌<◌, length};
 ghost use Rattle.clauses.specs.Row.{start_of};
-ghost use Rattle.gates.specs.Found.{is_and};
-ghost use Rattle.closure.specs.Passing.{is_other, is_third, is_with, is_ending, First};
+ghost use Rattle.closure.specs.Passing.{is_other, is_with, is_ending, First};
 
 use crate::lead::lead_of;
 use clauses::place::clause_end;
-use gates::mark_bits::is_and;
 
 // Whether place q is not `skip`, and its lead neither F nor y.
 fn is_other(codes: &[u32], old: &[u32], skip: usize, y: u32, q: usize) -> bool
@@ -39,36 +37,6 @@ pub fn first_other(codes: &[u32], old: &[u32], from: usize, to: usize, skip: usi
     q
 }
 
-// Whether the lead of place q is none of F, x and y.
-fn is_third(codes: &[u32], old: &[u32], x: u32, y: u32, q: usize) -> bool
-    requires { q < length codes.now }
-    ensures { result ≡ is_third codes.now old.now x y q }
-{
-    let z = lead_of(old, codes[q]);
-    if z == 0 {
-        return false;
-    }
-    if z == x {
-        return false;
-    }
-    z != y
-}
-
-// The first place from `from` on whose lead is none of F, x and y; `to` where none below it is.
-pub fn first_third(codes: &[u32], old: &[u32], from: usize, to: usize, x: u32, y: u32) -> usize
-    requires { (from ≤ to) × (to ≤ length codes.now) }
-    ensures { First (is_third codes.now old.now x y) from to result }
-{
-    let mut q = from;
-    while q < to {
-        if is_third(codes, old, x, y, q) {
-            return q;
-        }
-        q += 1;
-    }
-    q
-}
-
 // Whether place q is not `skip`, and its lead x.
 fn is_with(codes: &[u32], old: &[u32], skip: usize, x: u32, q: usize) -> bool
     requires { q < length codes.now }
@@ -93,21 +61,6 @@ pub fn first_with(codes: &[u32], old: &[u32], from: usize, to: usize, skip: usiz
         q += 1;
     }
     q
-}
-
-// The first place from `from` on, below `to`, that is the output of an AND; none below `to` is where it is not below `to`.
-pub fn first_and(marks: &[u8], from: usize, to: usize) -> usize
-    requires { to ≤ length marks.now }
-    ensures { (from ≤ to → result ≤ to) × ((p : ℕ) → from ≤ p → p < to → is_and (get_or marks.now p 0) ≡ true → result ≤ p) × (from ≤ result) }
-{
-    let mut p = from;
-    while p < to {
-        if is_and(marks[p]) {
-            return p;
-        }
-        p += 1;
-    }
-    p
 }
 
 // The first place from `from` on that ends a clause.

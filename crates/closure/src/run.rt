@@ -6,7 +6,9 @@ ghost use Rattle.clauses.specs.Clause.{clauses_in};
 ghost use Rattle.clauses.specs.Listing.{Fits};
 ghost use Rattle.clauses.specs.Code.{nets_of};
 ghost use Rattle.gates.specs.Found.{Found};
-ghost use Rattle.closure.specs.Rounds.{is_still, Followed, Over, Room};
+ghost use Rattle.rules.specs.Answer.{own};
+ghost use Rattle.rules.specs.Compute.{ended, closed};
+ghost use Rattle.closure.specs.Rounds.{is_still, Followed, Room};
 
 use crate::and_pairs::by_and_pairs;
 use crate::ands::by_ands;
@@ -15,11 +17,10 @@ use crate::ite_groups::by_groups;
 use crate::ite_mates::by_sides;
 use crate::lead::copy_leads;
 use crate::occurrences::index_row;
-use crate::pass::Pass;
 use crate::tally::Tally;
 use crate::units::by_clauses;
 use crate::worklist::{list_all, list_changed};
-use crate::xors::by_xors;
+use crate::xors::{Pass, by_xors};
 use clauses::fill::fill;
 use clauses::limits::{CODES, MAX_ENTRIES, MAX_NETS};
 use rules::Verdict;
@@ -37,6 +38,9 @@ const NUMBERS: usize = 2 * MAX_ENTRIES;
 
 // Buckets: a prime, since keys are packed in powers of two.
 const BUCKETS: usize = 4093;
+
+// The code where there is no lead.
+const NO_LEAD: u32 = 4294967295;
 
 // How closing ends, and the groups left.
 #[derive(Clone, Copy)]
@@ -90,13 +94,13 @@ fn follow(
     limit: u32,
     s: Progress,
     t: Tally,
-    new: &[u32],
-    old: &mut [u32],
+    next: &[u32],
+    leads: &mut [u32],
     older: &mut [u32],
 ) -> Progress
-    requires len { (length new.now ≡ length old.old) × (length older.old ≡ length old.old) }
+    requires next_len { (length next.now ≡ length leads.old) × (length older.old ≡ length leads.old) }
     requires rounds_le_limit { s.rounds ≤ limit }
-    ensures { Followed limit s t old.old new.now old.new older.new result }
+    ensures { Followed limit s t leads.old next.now leads.new older.new result }
 {
     let still = is_still(t);
     let rounds = s.rounds;
@@ -107,10 +111,11 @@ fn follow(
         return end_with(Verdict::Unfinished, rounds, s.groups);
     }
     if t.clash {
+        fill(leads, NO_LEAD);
         return end_with(Verdict::Contradiction, rounds + 1, 0);
     }
-    copy_leads(old, older);
-    copy_leads(new, old);
+    copy_leads(leads, older);
+    copy_leads(next, leads);
     Progress {
         verdict: Verdict::Unfinished,
         rounds: rounds + 1,
@@ -144,20 +149,21 @@ fn is_anew(rounds: u32, slots: Slots, entries: usize) -> bool
     !has_room(slots, entries)
 }
 
-// Makes rounds up to the limit, from the first leads on, and leaves the last ones in `old`; `new` has the leads of the round that is being made, `older` those before the last one. A round goes over the clauses that changed, and over all of them where the tables are made anew.
+// Makes rounds up to the limit, from the first leads on, and leaves the last ones; `next` has the leads of the round that is being made, `older` those before the last one. A round goes over the clauses that changed, and over all of them where the tables are made anew.
 pub fn run(
     codes: &[u32],
     marks: &[u8],
     limit: u32,
-    old: &mut [u32],
-    new: &mut [u32],
+    leads: &mut [u32],
+    next: &mut [u32],
     older: &mut [u32],
 ) -> Ended
     requires found { Found (clauses_in codes.now) codes.now marks.now }
-    requires fits { Fits (length old.old) (clauses_in codes.now) }
-    requires len_bound { (length old.old ≤ max_nets) × (length codes.now ≤ max_entries) }
-    requires value { (old.old ≡ nets_of (length old.old)) × (new.old ≡ old.old) × (older.old ≡ old.old) }
-    ensures { Over (length old.old) (clauses_in codes.now) limit old.new result.verdict result.rounds result.groups }
+    requires fits { Fits (length leads.old) (clauses_in codes.now) }
+    requires leads_len_bound { (length leads.old ≤ max_nets) × (length codes.now ≤ max_entries) }
+    requires leads_value { (leads.old ≡ nets_of (length leads.old)) × (next.old ≡ leads.old) × (older.old ≡ leads.old) }
+    ensures leads_after { ended result.verdict result.rounds leads.new ≡ closed (length leads.old) (clauses_in codes.now) limit }
+    ensures groups_value { result.groups ≡ length (own (length leads.old) leads.new) }
 {
     let mut starts = [0u32; MAX_ENTRIES];
     let mut reads = [0u8; MAX_ENTRIES];
@@ -200,12 +206,12 @@ pub fn run(
     let mut s = Progress {
         verdict: Verdict::Unfinished,
         rounds: 0,
-        groups: old.len() as u32,
+        groups: leads.len() as u32,
         more: true,
     };
     while s.more {
         let mut work = list_changed(
-            codes, &starts, &reads, &occurs, &links, older, old, &mut seen, &mut list,
+            codes, &starts, &reads, &occurs, &links, older, leads, &mut seen, &mut list,
         );
         if is_anew(s.rounds, slots, work.entries) {
             fill(&mut and_heads, 0);
@@ -226,19 +232,19 @@ pub fn run(
             joins: 0,
             clash: false,
         };
-        let units = by_clauses(codes, marks, &list[..n], old, new, first);
-        let outputs = by_ands(codes, marks, &list[..n], old, &mut held, new, units);
+        let units = by_clauses(codes, marks, &list[..n], leads, next, first);
+        let outputs = by_ands(codes, marks, &list[..n], leads, &mut held, next, units);
         let ands = by_and_pairs(
             codes,
             marks,
             &list[..n],
-            old,
+            leads,
             &mut and_keys,
             &mut and_slots,
             &mut and_next,
             &mut and_heads,
             &mut held,
-            new,
+            next,
             Pass {
                 tally: outputs,
                 count: slots.ands,
@@ -249,12 +255,12 @@ pub fn run(
             codes,
             marks,
             &list[..n],
-            old,
+            leads,
             &mut xor_keys,
             &mut xor_sums,
             &mut xor_next,
             &mut xor_heads,
-            new,
+            next,
             Pass {
                 tally: after_ands,
                 count: slots.xors,
@@ -265,14 +271,14 @@ pub fn run(
             codes,
             marks,
             &list[..n],
-            old,
+            leads,
             &mut sides,
             &mut likes,
             &mut mate_next,
             &mut mate_heads,
             &mut like_next,
             &mut like_heads,
-            new,
+            next,
             Pass {
                 tally: after_xors,
                 count: from,
@@ -288,9 +294,9 @@ pub fn run(
             &like_heads,
             &hubs,
             &hub_links,
-            old,
+            leads,
             &mut holders,
-            new,
+            next,
             ites.tally,
         );
         slots = Slots {
@@ -298,7 +304,7 @@ pub fn run(
             xors: xors.count,
             sides: entered,
         };
-        s = follow(limit, s, t, new, old, older);
+        s = follow(limit, s, t, next, leads, older);
     }
     let verdict = s.verdict;
     Ended {

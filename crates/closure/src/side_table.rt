@@ -123,7 +123,7 @@ pub fn enter_side(
     count: usize,
 ) -> usize
     requires by_index { (marks : List ℕ) × SideTable codes.now marks old.now count sides.old likes.old mate_next.old mate_heads.old like_next.old like_heads.old × IsSide codes.now marks s }
-    requires lead_row { LeadRow old.now × (length old.now < 2147483647) }
+    requires lead_row { LeadRow old.now }
     requires count_in_bounds { (count < length likes.old) × (length likes.old ≤ 4294967295) × (s < 4294967296) }
     ensures table { (marks : List ℕ) → SideTable codes.now marks old.now count sides.old likes.old mate_next.old mate_heads.old like_next.old like_heads.old → IsSide codes.now marks s
         → SideTable codes.now marks old.now result sides.new likes.new mate_next.new mate_heads.new like_next.new like_heads.new }

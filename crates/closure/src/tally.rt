@@ -3,7 +3,7 @@
 ghost use Rattle.std.specs.Prelude.{◌≡◌, ◌<◌};
 ghost use Rattle.closure.specs.Joining.{fewer, join_state};
 
-use crate::lead::{lead_of, leads_both, replace_all};
+use crate::lead::{lead_of, replace_all};
 
 // The groups left, the joins made, and whether T and F have been joined.
 #[derive(Clone, Copy)]
@@ -54,7 +54,7 @@ impl Tally {
                 clash: true,
             };
         }
-        if leads_both(leads, x, y) {
+        if x / 2 < y / 2 {
             replace_all(leads, y, x);
             return self.fewer();
         }

@@ -10,7 +10,6 @@ use crate::literals::first_other;
 use crate::tally::Tally;
 use clauses::place::clause_end;
 use clauses::sign::flipped;
-use gates::mark_bits::is_pair;
 
 // Rule 1 for the clause from b up to its ending at e, whatever the marks are.
 fn by_unit(codes: &[u32], b: usize, e: usize, old: &[u32], new: &mut [u32], t: Tally) -> Tally
@@ -45,7 +44,7 @@ fn by_clause(
     ensures clause { ClauseJoined codes.now marks.now old.now new.new result b }
 {
     let u = by_unit(codes, b, e, old, new, t);
-    if is_pair(marks[e]) {
+    if marks[e] == 2 {
         return u.join(new, codes[b], flipped(true, codes[b + 1]));
     }
     u

@@ -9,12 +9,17 @@ ghost use Rattle.closure.specs.Worklist.{AreStarts, span_of};
 ghost use Rattle.closure.specs.KeptXors.{XorTable, XorsKnown};
 
 use crate::nets::rest_of;
-use crate::pass::Pass;
 use crate::table::{enter, last_slot};
 use crate::tally::Tally;
 use clauses::place::clause_end;
 use clauses::sign::flipped;
-use gates::mark_bits::is_xor;
+
+// A round that is being made, and the slots taken in the table of keys.
+#[derive(Clone, Copy)]
+pub struct Pass {
+    pub tally: Tally,
+    pub count: usize,
+}
 
 // Joins a sum of at most one net to it.
 fn join_alone(new: &mut [u32], t: Tally, key: u64, sum: u32) -> Tally
@@ -129,7 +134,7 @@ fn take_listed(
     let b = list[i] as usize;
     let end = clause_end(codes, b);
     let mut s = pass;
-    if !is_xor(marks[end]) {
+    if marks[end] != 1 {
         return s;
     }
     let n = end - b;

@@ -21,6 +21,7 @@ use Rattle.rules.specs.Answer.{Answer, Lead, to_false, to_true, lowest, lead_of,
 use Rattle.rules.specs.Compute.{Closed, tally}
 use Rattle.rules.proofs.Groupings.{after_back, after_chain, after_clash}
 use Rattle.rules.proofs.Endings.{Agree, ends_once, ends_clash, ends_apart}
+use Rattle.rules.proofs.Leads.{lead_zero}
 use Rattle.rules.proofs.Rounds.{Row}
 use Rattle.rules.proofs.Closing.{Ran, with_row, with_none, entry}
 use Rattle.rules.proofs.Groups.{own_none}
@@ -33,10 +34,10 @@ row_lead v l G r w = go (ℕ_discrete (net x) 0)
     x = lead_of l (2 * w)
 
     led : G (2 * w) x
-    led = r.rep.sound (2 * w) x (sym (r.rep.leading.again (2 * w)))
+    led = r.rep.sound (2 * w) x (sym (r.rep.canonical.again (2 * w)))
 
     zero_led : lead_of l 0 ≡ 0
-    zero_led = r.rep.leading.zero
+    zero_led = lead_zero (lead_of l) r.rep.canonical
 
     constant : (x ≡ 0) ⊎ (x ≡ negate 0) → Lead G w x
     constant (inl e) = subst⁻¹ (Lead G w) e (to_false (subst (G (2 * w)) e led))
@@ -46,8 +47,8 @@ row_lead v l G r w = go (ℕ_discrete (net x) 0)
     go (yes e) = constant (same_net x 0 e)
     go (no n) =
         lowest (λ h. n (ap net (r.rep.complete (2 * w) 0 h ∙ zero_led)))
-        (λ h. n (ap net (r.rep.complete (2 * w) 1 h ∙ r.rep.leading.inverse 0 ∙ ap negate zero_led))) led
-        (λ y h. subst⁻¹ (λ (z : ℕ). net z ≤ net y) (r.rep.complete (2 * w) y h) (r.low y))
+        (λ h. n (ap net (r.rep.complete (2 * w) 1 h ∙ r.rep.canonical.inverse 0 ∙ ap negate zero_led))) led
+        (λ y h. subst⁻¹ (λ (z : ℕ). net z ≤ net y) (r.rep.complete (2 * w) y h) (r.rep.canonical.low y))
 
 -- what ends as the groupings say, with the leads of the last one, makes the answer
 pub ran_answer : (v : ℕ) (cs : List (List ℕ)) → Fits v cs → (limit : ℕ) (r : Closed) → Ran v cs limit r → IsAnswer v cs limit (tally v cs r)

@@ -15,13 +15,13 @@ use borrow.Author.Tests.{eq-eqb, ne_eqb, eqb-true}
 use Rattle.clauses.specs.Code.{negate, net}
 use Rattle.clauses.specs.Clause.{Mem}
 use Rattle.clauses.specs.Lists.{each, picks}
-use Rattle.clauses.specs.Sign.{plus, flip, is_inverse, parity}
 use Rattle.clauses.proofs.Lists.{in_first, mem_map, mem_of_map, each_has, has_each}
 use Rattle.clauses.proofs.Picks.{Picked, picked, pick_length, picks_are, are_picks}
+use Rattle.clauses.specs.Sign.{plus, flip, is_inverse, parity}
 use Rattle.clauses.proofs.Signs.{plus_false, plus_self, plus_cancel, plus_assoc, net_flip, plain_of_even, is_inverse_flip, code_split, same_net_flip, parity_pick}
 use Rattle.rules.specs.Rule.{Cancels}
 use Rattle.rules.specs.Compute.{parities}
-use Rattle.rules.proofs.Leads.{Represents, lead_flip}
+use Rattle.rules.proofs.Leads.{Represents, lead_flip, lead_zero}
 
 -- a literal is led by net w, or by an inverse
 abbrev pub leads_to : (ℕ → ℕ) → ℕ → ℕ → Bool
@@ -32,10 +32,10 @@ inverse_led f x = is_inverse (f x)
 
 module _ (f : ℕ → ℕ) (G : ℕ → ℕ → Type 0) (r : Represents f G) where
   f_flip : (b : Bool) (c : ℕ) → f (flip b c) ≡ flip b (f c)
-  f_flip = lead_flip f r.leading
+  f_flip = lead_flip f r.canonical
 
   constant_led : (b : Bool) {x : ℕ} → G x (flip b 0) → f x ≡ flip b 0
-  constant_led b {x} g = r.complete x (flip b 0) g ∙ f_flip b 0 ∙ ap (flip b) r.leading.zero
+  constant_led b {x} g = r.complete x (flip b 0) g ∙ f_flip b 0 ∙ ap (flip b) (lead_zero f r.canonical)
 
   pair_led : (b : Bool) {x : ℕ} (y : ℕ) → G x (flip b y) → f x ≡ flip b (f y)
   pair_led b {x} y g = r.complete x (flip b y) g ∙ f_flip b y
@@ -80,7 +80,7 @@ module _ (f : ℕ → ℕ) (G : ℕ → ℕ → Type 0) (r : Represents f G) whe
           Cancels.constant (inverse_led f x)
           (r.sound x (flip (inverse_led f x) 0)
           (code_split (f x) ∙ ap (λ (z : ℕ). flip (is_inverse (f x)) (2 * z)) q
-          ∙ sym (f_flip (inverse_led f x) 0 ∙ ap (flip (inverse_led f x)) r.leading.zero)))
+          ∙ sym (f_flip (inverse_led f x) 0 ∙ ap (flip (inverse_led f x)) (lead_zero f r.canonical))))
           (ih xs (le_of_suc-le-suc h) (λ w m. sym (ap (λ (b : Bool). plus b (parity (leads_to f w) xs)) (ne_eqb (net (f x)) w (λ z. m (sym z ∙ q)))) ∙ e w m))
       go (no m) ih = found (somewhere led xs odd)
         where

@@ -12,12 +12,13 @@ use lib.ListN.{length, get_or-eq_default, get_or, length-map, replicate}
 use lib.Seq.{ext_get_or}
 use Rattle.rules.specs.declared.Verdict.{Verdict}
 use Rattle.rules.specs.declared.Verdict.TheVariants.{Contradiction, Settled, Unfinished}
-use Rattle.clauses.specs.Code.{negate, net, nets_of}
+use Rattle.clauses.specs.Code.{negate, net}
 use Rattle.clauses.specs.Lists.{from, same_list}
 use Rattle.clauses.specs.Listing.{Fits}
-use Rattle.clauses.specs.Sign.{flip, is_inverse}
 use Rattle.clauses.proofs.Lists.{from_length, same_list_is, is_same_list}
 use Rattle.clauses.proofs.Codes.{net_double, negate_other}
+use Rattle.clauses.specs.Sign.{flip, is_inverse}
+use Rattle.clauses.specs.Code.{nets_of}
 use Rattle.clauses.proofs.Signs.{plain_of_even, code_split}
 use Rattle.rules.specs.Grouping.{Closure, Nothing, After}
 use Rattle.rules.specs.Ending.{Still, Clash, Ends}
@@ -25,7 +26,7 @@ use Rattle.rules.specs.Answer.{lead_of, no_lead}
 use Rattle.rules.specs.Compute.{Gates, gates_of, Grouping, by_leads, everything, round, Closed, ended, run, closed}
 use Rattle.rules.proofs.Groupings.{after_grows}
 use Rattle.rules.proofs.Endings.{Agree, contradiction_at, settled_at, unfinished_at, ends_once}
-use Rattle.rules.proofs.Leads.{Leading, Represents, kernel_closed, represents_unique}
+use Rattle.rules.proofs.Leads.{Canonical, kernel_closed, represents_unique}
 use Rattle.rules.proofs.Rounds.{Row, Made, round_made}
 
 -- what a run gives: how closing ends, and, but for a contradiction, the row of leads then
@@ -33,9 +34,8 @@ pub data Ran (v : ℕ) (cs : List (List ℕ)) (limit : ℕ) : Closed → Type 0 
   with_row : {w : Verdict} {n : ℕ} {l : List ℕ} → w ≢ Contradiction → Ends cs limit w n → Row v l (After cs n) → Ran v cs limit (ended w n l)
   with_none : {n : ℕ} → Ends cs limit Contradiction n → Ran v cs limit (ended Contradiction n (replicate v no_lead))
 
--- leads join T to F in no grouping
-pub no_clash : (l : List ℕ) (G : ℕ → ℕ → Type 0) → Represents (lead_of l) G → ¬ G 1 0
-no_clash l G r h = negate_other (lead_of l 0) (sym (r.leading.inverse 0) ∙ r.complete 1 0 h)
+pub no_clash : (v : ℕ) (l : List ℕ) (G : ℕ → ℕ → Type 0) → Row v l G → ¬ G 1 0
+no_clash v l G r h = negate_other (lead_of l 0) (sym (r.rep.canonical.inverse 0) ∙ r.rep.complete 1 0 h)
 
 pub ran_ends : {v : ℕ} {cs : List (List ℕ)} {limit : ℕ} {r : Closed} → Ran v cs limit r → Ends cs limit r.verdict r.rounds
 ran_ends (with_row d e row) = e
@@ -44,7 +44,7 @@ ran_ends (with_none e) = e
 pub settled≢contradiction : Settled ≢ Contradiction
 settled≢contradiction e = let z : ◌≡◌ {A = ℕ} 0 1 = cc in omega arith
 
-pub unfinished≢contradiction : Unfinished ≢ Contradiction
+unfinished≢contradiction : Unfinished ≢ Contradiction
 unfinished≢contradiction e = let z : ◌≡◌ {A = ℕ} 0 1 = cc in omega arith
 
 pub any_default : (l : List ℕ) (i d e : ℕ) → i < length l → get_or l i d ≡ get_or l i e
@@ -63,7 +63,7 @@ entry l i d h =
 pub row_unique : (v : ℕ) (l m : List ℕ) (G : ℕ → ℕ → Type 0) → Row v l G → Row v m G → l ≡ m
 row_unique v l m G r s =
     ext_get_or 0 l m (r.size ∙ sym s.size)
-    (λ i h. sym (entry l i 0 h) ∙ represents_unique (lead_of l) (lead_of m) G r.rep r.low s.rep s.low (2 * suc i) ∙ entry m i 0 (subst (λ (n : ℕ). i < n) (r.size ∙ sym s.size) h))
+    (λ i h. sym (entry l i 0 h) ∙ represents_unique (lead_of l) (lead_of m) G r.rep s.rep (2 * suc i) ∙ entry m i 0 (subst (λ (n : ℕ). i < n) (r.size ∙ sym s.size) h))
 
 module _ (v : ℕ) (cs : List (List ℕ)) (fit : Fits v cs) (limit : ℕ) where
   abbrev g : Gates
@@ -82,11 +82,10 @@ module _ (v : ℕ) (cs : List (List ℕ)) (fit : Fits v cs) (limit : ℕ) where
           record {
             size = r.size;
             rep = record {
-              leading = r.rep.leading;
+              canonical = r.rep.canonical;
               sound = λ a b q. after_grows cs n a b (r.rep.sound a b q);
               complete = λ a b q. r.rep.complete a b (still a b q);
             };
-            low = r.low;
           }
 
   pub up_to : (n : ℕ) → ((i : ℕ) → i < n → ¬ Still cs i) → ¬ Still cs n → (i : ℕ) → i ≤ n → ¬ Still cs i
@@ -100,18 +99,18 @@ module _ (v : ℕ) (cs : List (List ℕ)) (fit : Fits v cs) (limit : ℕ) where
 
   pub settles : (n : ℕ) (leads : List ℕ) → n ≤ limit → Row v leads (After cs n) → Still cs n → ((i : ℕ) → i < n → ¬ Still cs i)
       → Ran v cs limit (ended Settled n leads)
-  settles n leads q r still h = with_row settled≢contradiction (settled_at cs limit q (no_clash leads (After cs n) r.rep) still h) r
+  settles n leads q r still h = with_row settled≢contradiction (settled_at cs limit q (no_clash v leads (After cs n) r) still h) r
 
   pub clashes : (n : ℕ) (leads : List ℕ) → n < limit → Row v leads (After cs n) → Clash cs (suc n)
       → Ran v cs limit (ended Contradiction (suc n) (replicate (length leads) no_lead))
   clashes n leads q r h =
       subst⁻¹ (λ (k : ℕ). Ran v cs limit (ended Contradiction (suc n) (replicate k no_lead))) r.size
-      (with_none (contradiction_at cs limit q (no_clash leads (After cs n) r.rep) h))
+      (with_none (contradiction_at cs limit q (no_clash v leads (After cs n) r) h))
 
   pub stops : (n : ℕ) (leads : List ℕ) → n ≡ limit → Row v leads (After cs n) → ((i : ℕ) → i < n → ¬ Still cs i) → ¬ Still cs n
       → Ran v cs limit (ended Unfinished n leads)
   stops n leads q r h k =
-      with_row unfinished≢contradiction (subst (λ (m : ℕ). Ends cs m Unfinished n) q (unfinished_at cs n (no_clash leads (After cs n) r.rep) (up_to n h k))) r
+      with_row unfinished≢contradiction (subst (λ (m : ℕ). Ends cs m Unfinished n) q (unfinished_at cs n (no_clash v leads (After cs n) r) (up_to n h k))) r
 
   -- the next row is the same: the next round changes nothing
   stayed : (n : ℕ) (leads next : List ℕ) → Row v leads (After cs n) → Row v next (After cs (suc n)) → same_list next leads ≡ true → Still cs n
@@ -123,7 +122,7 @@ module _ (v : ℕ) (cs : List (List ℕ)) (fit : Fits v cs) (limit : ℕ) where
     where
       go : (t : Grouping) → round cs g leads ≡ t → Ran v cs limit (run cs g zero n leads)
       go everything e =
-          rw (e, run) (stops n leads (omega arith) r h (λ s. no_clash leads (After cs n) r.rep (s 1 0 (made n leads r everything e))))
+          rw (e, run) (stops n leads (omega arith) r h (λ s. no_clash v leads (After cs n) r (s 1 0 (made n leads r everything e))))
       go (by_leads next) e = pick (same_list next leads) refl
         where
           s : Row v next (After cs (suc n))
@@ -184,19 +183,18 @@ first_is v cs =
     record {
       size = nets_of_length v;
       rep = record {
-        leading = can;
+        canonical = can;
         sound = λ a b e. subst (Closure Nothing a) (sym (first_lead v a) ∙ e ∙ first_lead v b) Closure.same;
         complete = λ a b h. kernel_closed (lead_of (nets_of v)) can Nothing (λ x y z. absurd z) h;
       };
-      low = λ c. subst⁻¹ (λ (x : ℕ). net x ≤ net c) (first_lead v c) (omega arith);
     }
   where
-    can : Leading (lead_of (nets_of v))
+    can : Canonical (lead_of (nets_of v))
     can =
         record {
           inverse = λ c. first_lead v (negate c) ∙ ap negate (sym (first_lead v c));
           again = λ c. first_lead v (lead_of (nets_of v) c);
-          zero = first_lead v 0;
+          low = λ c. subst⁻¹ (λ (x : ℕ). net x ≤ net c) (first_lead v c) (omega arith);
         }
 
 -- closing gives what the groupings say

@@ -10,9 +10,9 @@ use Rattle.clauses.specs.Code.{negate}
 use Rattle.clauses.specs.Clause.{Mem}
 use Rattle.clauses.specs.Lists.{all}
 use Rattle.clauses.proofs.Lists.{all_have}
+use Rattle.clauses.specs.Sign.{plus}
 use Rattle.clauses.proofs.Signs.{plus_cancel}
 use Rattle.clauses.specs.Assignment.{Assignment, Satisfies}
-use Rattle.clauses.specs.Sign.{plus}
 use Rattle.rules.specs.Design.{Gate, output, computes, HoldsGate}
 use Rattle.rules.specs.Copy.{Differs, by-xor, by-and, by-ands, by_or, Miter, asserted, some_of, opposed}
 use Rattle.rules.proofs.Encodings.{only_true, inverse_is, encoding_true}

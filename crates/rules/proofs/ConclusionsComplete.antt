@@ -12,22 +12,22 @@ use Rattle.clauses.specs.Code.{negate}
 use Rattle.clauses.specs.Clause.{Mem, Same, Present}
 use Rattle.clauses.specs.Lists.{any, all}
 use Rattle.clauses.specs.Listing.{clause_sets, Fits}
-use Rattle.clauses.specs.Sign.{plus, flip, parity}
 use Rattle.clauses.proofs.Lists.{both_and, or_left, or_right, in_first, in_second, mem_map, has_any, have_all, has_each, also_left, also_right, has_only}
 use Rattle.clauses.proofs.Distinct.{Distinct}
 use Rattle.clauses.proofs.Codes.{negate_negate}
 use Rattle.clauses.proofs.Clauses.{is_same, is_present, same_sym, Kept, clause_sets_listed, clause_sets_kept}
 use Rattle.clauses.proofs.Picks.{Picked, picked, pick_rest, rest_other, are_picks, Perm, perm_length}
-use Rattle.clauses.proofs.Signs.{flip_flip, flip_plus, parity_append, perm_parity}
+use Rattle.clauses.specs.Sign.{plus, flip, parity}
 use Rattle.gates.specs.Gate.{Input, XorGate, IteGate}
 use Rattle.gates.specs.Listing.{ands, xor_clauses, ites}
+use Rattle.clauses.proofs.Signs.{flip_flip, flip_plus, parity_append, perm_parity}
 use Rattle.gates.proofs.Ands.{AndEntry, and_entry}
 use Rattle.gates.proofs.Xors.{xor_upright}
 use Rattle.gates.proofs.XorsListed.{XorEntry, xor_entry}
 use Rattle.gates.proofs.ItesListed.{ite_entry}
 use Rattle.rules.specs.Rule.{Cancels, Covers, Concludes}
 use Rattle.rules.specs.Compute.{Conclusion, by_clause, by_and, covers, by_ands, by_xor, by_xors, by_ite, by_ites, gates_of, alone_and_paired, conclusions}
-use Rattle.rules.proofs.Leads.{Leading, Represents, lead_flip}
+use Rattle.rules.proofs.Leads.{Canonical, Represents, lead_flip}
 use Rattle.rules.proofs.Cancelling.{cancels_same, are_parities}
 
 signs_one : (o p : Bool) → plus (plus (not o) (not p)) false ≡ plus o p
@@ -58,7 +58,7 @@ paired l f g k i m = has_each _ k (also_right _ (has_each _ i m))
 
 module _ (j : ℕ → ℕ → Bool) (G : ℕ → ℕ → Type 0) (tested : (a b : ℕ) → G a b → j a b ≡ true) (f : ℕ → ℕ) (rep : Represents f G)
     (cs : List (List ℕ)) (v : ℕ) (fit : Fits v cs)
-    (h : ℕ → ℕ) (can : Leading h) (told : (p : Conclusion) → Memᴰ p (conclusions cs (gates_of v cs) j) → h p.one ≡ h p.two) where
+    (h : ℕ → ℕ) (can : Canonical h) (told : (p : Conclusion) → Memᴰ p (conclusions cs (gates_of v cs) j) → h p.one ≡ h p.two) where
   by-clause : (c : List ℕ) → Memᴰ c (clause_sets cs) → (p : Conclusion) → Memᴰ p (by_clause j cs c) → h p.one ≡ h p.two
   unfolding conclusions gates_of
   by-clause c k p m = told p (also_left _ (has_each (by_clause j cs) k m))

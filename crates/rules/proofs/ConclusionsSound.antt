@@ -13,11 +13,11 @@ use Rattle.clauses.specs.Code.{negate}
 use Rattle.clauses.specs.Clause.{Mem, Present}
 use Rattle.clauses.specs.Lists.{any, all, each, also, only, picks}
 use Rattle.clauses.specs.Listing.{same_set, present, clause_sets}
-use Rattle.clauses.specs.Sign.{flip}
 use Rattle.clauses.proofs.Lists.{and_both, or_cases, mem_of_map, Witness, any_has, all_have, each_elim, also_cases, only_one}
 use Rattle.clauses.proofs.Codes.{negate_negate}
 use Rattle.clauses.proofs.Clauses.{same_is, present_is, same_sym, present_same, clause_sets_listed}
 use Rattle.clauses.proofs.Picks.{pick_in, in_rest, picks_are}
+use Rattle.clauses.specs.Sign.{flip}
 use Rattle.gates.specs.Gate.{Input, XorGate}
 use Rattle.gates.specs.Listing.{And, ands, xor_clauses, Ite, ites}
 use Rattle.gates.proofs.Ands.{IsAnd, and_inputs, ands_are}

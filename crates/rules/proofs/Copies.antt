@@ -12,11 +12,11 @@ use lib.ListN.{length-map}
 use Rattle.clauses.specs.Code.{negate, net}
 use Rattle.clauses.specs.Clause.{Mem, Within, Included}
 use Rattle.clauses.specs.Lists.{Pick, first, later}
-use Rattle.clauses.specs.Sign.{plus, flip, is_inverse}
 use Rattle.clauses.proofs.Lists.{in_first, in_second, in_third, mem_map, mem_of_map}
 use Rattle.clauses.proofs.Codes.{net_negate, net_double, negate_other, same_net}
-use Rattle.clauses.proofs.Signs.{code_split, same_net_flip}
+use Rattle.clauses.specs.Sign.{plus, flip, is_inverse}
 use Rattle.gates.proofs.Ands.{Two}
+use Rattle.clauses.proofs.Signs.{code_split, same_net_flip}
 use Rattle.gates.proofs.Renamed.{flip_image, apart_image}
 use Rattle.rules.specs.Rule.{Cancels, Covers, Concludes}
 use Rattle.rules.specs.Grouping.{After}

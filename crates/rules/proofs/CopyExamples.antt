@@ -12,20 +12,21 @@ use native.Mathlib.Decide.{ℕ_discrete}
 use lib.Dec.{eqb}
 use borrow.Author.Tests.{eq-eqb, ne_eqb}
 use Rattle.rules.specs.declared.Verdict.TheVariants.{Contradiction, Settled}
-use Rattle.clauses.specs.Code.{negate, net, nets_of}
+use Rattle.clauses.specs.Code.{negate, net}
 use Rattle.clauses.specs.Clause.{Mem}
 use Rattle.clauses.specs.Lists.{any, all, keep, each, also, only, from, same_list, picks, choose}
 use Rattle.clauses.specs.Listing.{mem, within, same_set, tautology, present, literals, clause_sets}
 use Rattle.clauses.proofs.Lists.{in_first, any_has, all_have}
 use Rattle.clauses.proofs.Codes.{net_negate, net_double}
 use Rattle.clauses.proofs.Clauses.{present_is, present_same}
-use Rattle.clauses.proofs.Signs.{is_inverse_negate}
+use Rattle.clauses.specs.Sign.{plus, is_inverse}
 use Rattle.gates.specs.Listing.{ands, signings, xor_clauses, literals_of, is_then, is_else, ites}
 use Rattle.gates.specs.Count.{and_count, xors, xor_count, is_plain, ite_count}
+use Rattle.clauses.specs.Code.{nets_of}
+use Rattle.clauses.proofs.Signs.{is_inverse_negate}
 use Rattle.gates.proofs.ItesListed.{nets_apart}
 use Rattle.rules.specs.Answer.{Answer, lead_of, own}
 use Rattle.clauses.specs.Assignment.{Assignment, Satisfies}
-use Rattle.clauses.specs.Sign.{plus, is_inverse}
 use Rattle.rules.specs.Compute.{parities, by_clause, by_and, covers, by_ands, by_xor, by_xors, by_ite, by_ites, gates_of, alone_and_paired, conclusions, replace, join_leads, join_all, same_lead, round, run, closed, tally, answer}
 use Rattle.rules.specs.Design.{Gate, and, xor, encoding, ProperPins, HoldsGate}
 use Rattle.rules.specs.Copy.{EqualsCopy, driven, Copied, by-xor, Miter, asserted}

@@ -10,10 +10,10 @@ use Rattle.clauses.specs.Code.{negate}
 use Rattle.clauses.specs.Clause.{Mem}
 use Rattle.clauses.specs.Lists.{all}
 use Rattle.clauses.proofs.Lists.{in_first, in_second, in_third, mem_map, mem_of_map, all_have, have_all}
-use Rattle.clauses.proofs.Signs.{plus_self}
-use Rattle.gates.specs.Listing.{signings}
-use Rattle.clauses.specs.Assignment.{Assignment, True, Satisfies}
 use Rattle.clauses.specs.Sign.{plus, parity}
+use Rattle.gates.specs.Listing.{signings}
+use Rattle.clauses.proofs.Signs.{plus_self}
+use Rattle.clauses.specs.Assignment.{Assignment, True, Satisfies}
 use Rattle.rules.specs.Design.{Gate, and, xor, ite, output, computes, encoding}
 
 -- an element that fails the test

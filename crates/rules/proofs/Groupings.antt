@@ -9,8 +9,8 @@ use native.Mathlib.Omega.{arith}
 use native.Mathlib.Decide.{ℕ_discrete}
 use Rattle.clauses.specs.Code.{negate}
 use Rattle.clauses.specs.Clause.{Included}
-use Rattle.clauses.specs.Sign.{flip}
 use Rattle.clauses.proofs.Renaming.{same_names, images_included}
+use Rattle.clauses.specs.Sign.{flip}
 use Rattle.rules.specs.Rule.{Concludes}
 use Rattle.rules.specs.Grouping.{Closure, Next, After}
 use Rattle.rules.specs.Ending.{Still}

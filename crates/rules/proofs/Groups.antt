@@ -8,7 +8,7 @@ use mathlib.Core.List.{List, [], ◌∷◌}
 use Prim.Native.Nat.{ℕ, zero, suc, ◌+◌, ◌*◌, ◌≤◌, ◌<◌}
 use native.Mathlib.Omega.{arith}
 use native.Mathlib.Decide.{ℕ_discrete, dec_le}
-use native.Mathlib.Nat.{not-suc-le-zero}
+use native.Mathlib.Nat.{not-suc-le-zero, le_trans}
 use lib.ListN.{length, get_or-eq_default, replicate, length-replicate, get_or-replicate}
 use lib.Dec.{eqb}
 use borrow.Author.Tests.{eq-eqb, ne_eqb, eqb-true}
@@ -16,12 +16,12 @@ use Rattle.clauses.specs.Code.{negate, net}
 use Rattle.clauses.specs.Clause.{Mem, Within}
 use Rattle.clauses.specs.Lists.{from}
 use Rattle.clauses.specs.Listing.{mem}
-use Rattle.clauses.specs.Sign.{plus, flip, is_inverse}
 use Rattle.clauses.proofs.Lists.{in_first, keep_has, has_keep, keep_length, keep_none, from_in, from_low, from_length}
 use Rattle.clauses.proofs.Distinct.{Distinct, more, keep_distinct, from_distinct, pigeonhole}
 use Rattle.clauses.proofs.Codes.{net_double, negate_other, same_net}
 use Rattle.clauses.proofs.Clauses.{mem_in, in_mem}
 use Rattle.clauses.proofs.Renaming.{Image, Inside}
+use Rattle.clauses.specs.Sign.{plus, flip, is_inverse}
 use Rattle.clauses.proofs.Signs.{net_flip, code_split, same_net_flip, plain_net}
 use Rattle.gates.proofs.Renamed.{flip_renamed}
 use Rattle.rules.specs.Grouping.{After}
@@ -29,10 +29,9 @@ use Rattle.rules.specs.Ending.{Still}
 use Rattle.rules.specs.Answer.{lead_of, own, no_lead}
 use Rattle.rules.proofs.Groupings.{after_grows}
 use Rattle.rules.proofs.Endings.{after_from}
-use Rattle.rules.proofs.Leads.{lead_flip}
-use Rattle.rules.proofs.Rounds.{Row, AnyRow}
+use Rattle.rules.proofs.Leads.{lead_flip, lead_zero}
+use Rattle.rules.proofs.Rounds.{Row}
 use Rattle.rules.proofs.Closing.{entry}
-use Rattle.rules.proofs.SameLists.{same_image}
 
 module _ (v : ℕ) (l : List ℕ) where
   pub own_is : (w : ℕ) → Mem w (own v l) → (lead_of l (2 * w) ≡ 2 * w) × (1 ≤ w) × (w ≤ v)
@@ -119,33 +118,33 @@ module _ (v : ℕ) (cs : List (List ℕ)) (n : ℕ) (l m : List ℕ) (r : Row v 
       o = own_is v m w k
 
       led : lead_of m x ≡ 2 * w
-      led = later_same x (2 * w) (r.rep.leading.again (2 * w)) ∙ o.0
+      led = later_same x (2 * w) (r.rep.canonical.again (2 * w)) ∙ o.0
 
       nets : net x ≡ net (2 * w)
-      nets = le_both (r.low (2 * w)) (subst (λ (y : ℕ). net y ≤ net x) led (s.low x))
+      nets = le_both (r.rep.canonical.low (2 * w)) (subst (λ (y : ℕ). net y ≤ net x) led (s.rep.canonical.low x))
         where
           le_both : {a b : ℕ} → a ≤ b → b ≤ a → a ≡ b
           le_both p q = omega arith
 
       go : (x ≡ 2 * w) ⊎ (x ≡ negate (2 * w)) → x ≡ 2 * w
       go (inl e) = e
-      go (inr e) = absurd (negate_other (2 * w) (sym (ap negate o.0) ∙ sym (s.rep.leading.inverse (2 * w)) ∙ sym (ap (lead_of m) e) ∙ led))
+      go (inr e) = absurd (negate_other (2 * w) (sym (ap negate o.0) ∙ sym (s.rep.canonical.inverse (2 * w)) ∙ sym (ap (lead_of m) e) ∙ led))
 
   -- if every net still leads itself nothing has changed
   own_still : Within (own v l) (own v m) → (a : ℕ) → lead_of m a ≡ lead_of l a
-  own_still h a = sym (later_same (lead_of l a) a (r.rep.leading.again a)) ∙ fixed (lead_of l a) (r.rep.leading.again a)
+  own_still h a = sym (later_same (lead_of l a) a (r.rep.canonical.again a)) ∙ fixed (lead_of l a) (r.rep.canonical.again a)
     where
       fixed : (x : ℕ) → lead_of l x ≡ x → lead_of m x ≡ x
-      fixed x e = ap (lead_of m) (code_split x) ∙ lead_flip (lead_of m) s.rep.leading (is_inverse x) (2 * net x) ∙ ap (flip (is_inverse x)) (plain (net x) below) ∙ sym (code_split x)
+      fixed x e = ap (lead_of m) (code_split x) ∙ lead_flip (lead_of m) s.rep.canonical (is_inverse x) (2 * net x) ∙ ap (flip (is_inverse x)) (plain (net x) below) ∙ sym (code_split x)
         where
           below : lead_of l (2 * net x) ≡ 2 * net x
-          below = ap (lead_of l) (plain_net x) ∙ lead_flip (lead_of l) r.rep.leading (is_inverse x) x ∙ ap (flip (is_inverse x)) e ∙ sym (plain_net x)
+          below = ap (lead_of l) (plain_net x) ∙ lead_flip (lead_of l) r.rep.canonical (is_inverse x) x ∙ ap (flip (is_inverse x)) e ∙ sym (plain_net x)
 
           plain : (w : ℕ) → lead_of l (2 * w) ≡ 2 * w → lead_of m (2 * w) ≡ 2 * w
           plain w q = go (ℕ_discrete w 0) (dec_le w v)
             where
               go : Dec (w ≡ 0) → Dec (w ≤ v) → lead_of m (2 * w) ≡ 2 * w
-              go (yes z) d = subst⁻¹ (λ (i : ℕ). lead_of m (2 * i) ≡ 2 * i) z s.rep.leading.zero
+              go (yes z) d = subst⁻¹ (λ (i : ℕ). lead_of m (2 * i) ≡ 2 * i) z (lead_zero (lead_of m) s.rep.canonical)
               go (no z) (yes d) = (own_is v m w (h w (is_own v l w q (omega arith) d))).0
               go (no z) (no d) = outside m w (subst⁻¹ (λ (i : ℕ). i < w) s.size (omega arith))
 
@@ -167,19 +166,19 @@ module _ (v : ℕ) (cs : List (List ℕ)) (n : ℕ) (l m : List ℕ) (r : Row v 
 -- A renaming
 
 module _ (v : ℕ) (ρ σ : ℕ → ℕ) (cs ds : List (List ℕ)) (im : Image ρ σ cs ds) (inside : Inside v ρ) (n : ℕ) (l m : List ℕ)
-    (r : AnyRow v l (After cs n)) (s : AnyRow v m (After ds n)) where
+    (r : Row v l (After cs n)) (s : Row v m (After ds n)) where
   abbrev f : ℕ → ℕ
   f = lead_of m
 
   -- what has one lead up to its sign on one side has so on the other
   lead_back : (a b : ℕ) → net (f (ρ a)) ≡ net (f (ρ b)) → net (lead_of l a) ≡ net (lead_of l b)
-  lead_back a b e = ap net (r.rep.complete a (flip t b) (after_from ρ σ cs ds im n a (flip t b) joined) ∙ lead_flip (lead_of l) r.rep.leading t b) ∙ net_flip t (lead_of l b)
+  lead_back a b e = ap net (r.rep.complete a (flip t b) (after_from ρ σ cs ds im n a (flip t b) joined) ∙ lead_flip (lead_of l) r.rep.canonical t b) ∙ net_flip t (lead_of l b)
     where
       t : Bool
       t = plus (is_inverse (f (ρ a))) (is_inverse (f (ρ b)))
 
       joined : After ds n (ρ a) (ρ (flip t b))
-      joined = s.rep.sound (ρ a) (ρ (flip t b)) (same_net_flip (f (ρ a)) (f (ρ b)) e ∙ sym (lead_flip f s.rep.leading t (ρ b)) ∙ ap f (sym (flip_renamed ρ σ im.ren t b)))
+      joined = s.rep.sound (ρ a) (ρ (flip t b)) (same_net_flip (f (ρ a)) (f (ρ b)) e ∙ sym (lead_flip f s.rep.canonical t (ρ b)) ∙ ap f (sym (flip_renamed ρ σ im.ren t b)))
 
   abbrev Leads : ℕ → ℕ → Type 0
   Leads w u = u ≡ net (f (ρ (2 * w)))
@@ -197,13 +196,13 @@ module _ (v : ℕ) (ρ σ : ℕ → ℕ) (cs ds : List (List ℕ)) (im : Image �
           o = own_is v l w k
 
           led : f (2 * net x) ≡ 2 * net x
-          led = ap f (plain_net x) ∙ lead_flip f s.rep.leading (is_inverse x) x ∙ ap (flip (is_inverse x)) (s.rep.leading.again (ρ (2 * w))) ∙ sym (plain_net x)
+          led = ap f (plain_net x) ∙ lead_flip f s.rep.canonical (is_inverse x) x ∙ ap (flip (is_inverse x)) (s.rep.canonical.again (ρ (2 * w))) ∙ sym (plain_net x)
 
           zero_case : net x ≡ 0 → ⊥
-          zero_case e = no (lead_back (2 * w) 0 (e ∙ sym (ap net (ap f im.ren.zero_stays ∙ s.rep.leading.zero))))
+          zero_case e = no (lead_back (2 * w) 0 (e ∙ sym (ap net (ap f im.ren.zero_stays ∙ lead_zero f s.rep.canonical))))
             where
               no : net (lead_of l (2 * w)) ≡ net (lead_of l 0) → ⊥
-              no q = positive' (sym (net_double w) ∙ sym (ap net o.0) ∙ q ∙ ap net r.rep.leading.zero) o.1
+              no q = positive' (sym (net_double w) ∙ sym (ap net o.0) ∙ q ∙ ap net (lead_zero (lead_of l) r.rep.canonical)) o.1
                 where
                   positive' : w ≡ 0 → 1 ≤ w → ⊥
                   positive' p q = omega arith
@@ -216,18 +215,8 @@ module _ (v : ℕ) (ρ σ : ℕ → ℕ) (cs ds : List (List ℕ)) (im : Image �
               go (no e) = omega arith
 
           small : net x ≤ v
-          small = s.inside (ρ (2 * w)) (inside.stays (2 * w) (subst⁻¹ (λ (z : ℕ). z ≤ v) (net_double w) o.2))
+          small = le_trans (s.rep.canonical.low (ρ (2 * w))) (inside.stays (2 * w) (subst⁻¹ (λ (z : ℕ). z ≤ v) (net_double w) o.2))
 
       once : (w z u : ℕ) → Mem w (own v l) → Mem z (own v l) → Leads w u → Leads z u → w ≡ z
       once w z u k i p q =
           sym (net_double w) ∙ sym (ap net (own_is v l w k).0) ∙ lead_back (2 * w) (2 * z) (sym p ∙ q) ∙ ap net (own_is v l z i).0 ∙ net_double z
-
--- two rows that represent one grouping have as many groups
-pub groups_same : (v : ℕ) (cs : List (List ℕ)) (n : ℕ) (l m : List ℕ) → AnyRow v l (After cs n) → AnyRow v m (After cs n) → length (own v l) ≡ length (own v m)
-groups_same v cs n l m r s = le_both (le l m r s) (le m l s r)
-  where
-    le_both : {a b : ℕ} → a ≤ b → b ≤ a → a ≡ b
-    le_both p q = omega arith
-
-    le : (l m : List ℕ) → AnyRow v l (After cs n) → AnyRow v m (After cs n) → length (own v l) ≤ length (own v m)
-    le = groups_le v (λ x. x) (λ x. x) cs cs (same_image v cs cs (λ c. (λ h. h, λ h. h))) (record { stays = λ a h. h }) n

@@ -3,34 +3,30 @@
 use mathlib.Core.Path.{◌≡◌, refl, sym, ◌∙◌, ap, subst⁻¹, subst₂}
 use mathlib.Core.Logic.{◌≢◌, ◌⊎◌, inl, inr}
 use mathlib.Core.Bool.{Bool, true, false}
-use Prim.Native.Nat.{ℕ, ◌≤◌}
+use Prim.Native.Nat.{ℕ, ◌≤◌, ◌<◌}
 use native.Mathlib.Omega.{arith}
 use native.Mathlib.Decide.{ℕ_discrete}
 use borrow.Author.Tests.{eq-eqb, ne_eqb}
 use Rattle.clauses.specs.Code.{negate, net}
-use Rattle.clauses.specs.Sign.{flip}
 use Rattle.clauses.proofs.Codes.{negate_negate, net_negate, negate_other, same_net}
+use Rattle.clauses.specs.Sign.{flip}
 use Rattle.rules.specs.Grouping.{Closure}
 use Rattle.rules.specs.Compute.{replace}
 
--- the lead of an inverse is the inverse, a lead leads itself, and so does F
-pub record Leading (f : ℕ → ℕ) : Type 0 where
+-- the lead of an inverse is the inverse, a lead leads itself, and it is of the lowest net
+pub record Canonical (f : ℕ → ℕ) : Type 0 where
   pub inverse : (c : ℕ) → f (negate c) ≡ negate (f c)
   pub again : (c : ℕ) → f (f c) ≡ f c
-  pub zero : f 0 ≡ 0
-
--- a lead is of the lowest net
-abbrev pub Lowest : (ℕ → ℕ) → Type 0
-Lowest f = (c : ℕ) → net (f c) ≤ net c
+  pub low : (c : ℕ) → net (f c) ≤ net c
 
 -- f joins exactly what G joins
 pub record Represents (f : ℕ → ℕ) (G : ℕ → ℕ → Type 0) : Type 0 where
-  pub leading : Leading f
+  pub canonical : Canonical f
   pub sound : (a b : ℕ) → f a ≡ f b → G a b
   pub complete : (a b : ℕ) → G a b → f a ≡ f b
 
--- what leads join is closed
-pub kernel_closed : (f : ℕ → ℕ) → Leading f → (S : ℕ → ℕ → Type 0) → ((a b : ℕ) → S a b → f a ≡ f b) → {a b : ℕ} → Closure S a b → f a ≡ f b
+-- what a canonical function joins is closed
+pub kernel_closed : (f : ℕ → ℕ) → Canonical f → (S : ℕ → ℕ → Type 0) → ((a b : ℕ) → S a b → f a ≡ f b) → {a b : ℕ} → Closure S a b → f a ≡ f b
 kernel_closed f k S h (Closure.base s) = h _ _ s
 kernel_closed f k S h Closure.same = refl
 kernel_closed f k S h (Closure.back r) = sym (kernel_closed f k S h r)
@@ -40,20 +36,20 @@ kernel_closed f k S h (Closure.clash {x = x} r) =
     absurd (negate_other (f x) (sym (kernel_closed f k S h r ∙ k.inverse x)))
 kernel_closed f k S h (Closure.collapse r) = absurd (negate_other (f 0) (sym (k.inverse 0) ∙ kernel_closed f k S h r))
 
--- leads of the lowest nets are known by what they join
-pub represents_unique : (f g : ℕ → ℕ) (G : ℕ → ℕ → Type 0) → Represents f G → Lowest f → Represents g G → Lowest g → (c : ℕ) → f c ≡ g c
-represents_unique f g G p low-f q low-g c = go (same_net (f c) (g c) nets)
+-- a canonical function is known by what it joins
+pub represents_unique : (f g : ℕ → ℕ) (G : ℕ → ℕ → Type 0) → Represents f G → Represents g G → (c : ℕ) → f c ≡ g c
+represents_unique f g G p q c = go (same_net (f c) (g c) nets)
   where
     fg : g c ≡ g (f c)
-    fg = q.complete c (f c) (p.sound c (f c) (sym (p.leading.again c)))
+    fg = q.complete c (f c) (p.sound c (f c) (sym (p.canonical.again c)))
 
     gf : f c ≡ f (g c)
-    gf = p.complete c (g c) (q.sound c (g c) (sym (q.leading.again c)))
+    gf = p.complete c (g c) (q.sound c (g c) (sym (q.canonical.again c)))
 
     nets : net (f c) ≡ net (g c)
     nets =
-        let h : net (g (f c)) ≤ net (f c) = low-g (f c) in
-        let k : net (f (g c)) ≤ net (g c) = low-f (g c) in
+        let h : net (g (f c)) ≤ net (f c) = q.canonical.low (f c) in
+        let k : net (f (g c)) ≤ net (g c) = p.canonical.low (g c) in
         let h' : net (g c) ≤ net (f c) = rw fg h in
         let k' : net (f c) ≤ net (g c) = rw gf k in
         omega arith
@@ -61,12 +57,23 @@ represents_unique f g G p low-f q low-g c = go (same_net (f c) (g c) nets)
     go : (f c ≡ g c) ⊎ (f c ≡ negate (g c)) → f c ≡ g c
     go (inl e) = e
     go (inr e) =
-        let z : g c ≡ negate (g c) = fg ∙ ap g e ∙ q.leading.inverse (g c) ∙ ap negate (q.leading.again c) in
+        let z : g c ≡ negate (g c) = fg ∙ ap g e ∙ q.canonical.inverse (g c) ∙ ap negate (q.canonical.again c) in
         absurd (negate_other (g c) (sym z))
 
-pub lead_flip : (f : ℕ → ℕ) → Leading f → (b : Bool) (c : ℕ) → f (flip b c) ≡ flip b (f c)
-lead_flip f k false c = refl
-lead_flip f k true c = k.inverse c
+module _ (f : ℕ → ℕ) (k : Canonical f) where
+  pub lead_flip : (b : Bool) (c : ℕ) → f (flip b c) ≡ flip b (f c)
+  lead_flip false c = refl
+  lead_flip true c = k.inverse c
+
+  pub lead_zero : f 0 ≡ 0
+  lead_zero = go (same_net (f 0) 0 (low (k.low 0)))
+    where
+      low : net (f 0) ≤ 0 → net (f 0) ≡ 0
+      low h = omega arith
+
+      go : (f 0 ≡ 0) ⊎ (f 0 ≡ 1) → f 0 ≡ 0
+      go (inl e) = e
+      go (inr e) = sym (k.again 0) ∙ ap f e ∙ k.inverse 0 ∙ ap negate e
 
 -- A merge
 
@@ -112,20 +119,20 @@ replace_negate hi lo e = replace_is hi lo (negate e) (negate (replace hi lo e)) 
     go (as_inverse p q) = as_lead (ap negate p ∙ negate_negate hi) (ap negate q ∙ negate_negate lo)
     go (kept p q) = kept (λ x. p (sym (net_negate e) ∙ x)) (ap negate q)
 
--- two groups are joined: lo and hi are their leads, and lo leads both
-module _ (f : ℕ → ℕ) (k : Leading f) (lo hi : ℕ) (flo : f lo ≡ lo) (fhi : f hi ≡ hi) (apart : net lo ≢ net hi) (some : net hi ≢ 0) where
+-- two groups are joined: lo and hi are their leads, and lo's net is the lower
+module _ (f : ℕ → ℕ) (k : Canonical f) (lo hi : ℕ) (flo : f lo ≡ lo) (fhi : f hi ≡ hi) (lower : net lo < net hi) where
   abbrev pub merged : ℕ → ℕ
   merged c = replace hi lo (f c)
 
   lo_stays : replace hi lo lo ≡ lo
-  lo_stays = replace_is hi lo lo lo (kept apart refl)
+  lo_stays = replace_is hi lo lo lo (kept (omega arith) refl)
 
-  pub merged_leading : Leading merged
-  merged_leading =
+  pub merged_canonical : Canonical merged
+  merged_canonical =
       record {
         inverse = λ c. ap (replace hi lo) (k.inverse c) ∙ replace_negate hi lo (f c);
         again = λ c. again c (replaced hi lo (f c));
-        zero = ap (replace hi lo) k.zero ∙ replace_is hi lo 0 0 (kept (λ e. some (sym e)) refl);
+        low = λ c. low c (replaced hi lo (f c));
       }
     where
       again : (c : ℕ) → Replaced hi lo (f c) (merged c) → replace hi lo (f (merged c)) ≡ merged c
@@ -134,14 +141,18 @@ module _ (f : ℕ → ℕ) (k : Leading f) (lo hi : ℕ) (flo : f lo ≡ lo) (fh
           ap (λ (x : ℕ). replace hi lo (f x)) q ∙ ap (replace hi lo) (k.inverse lo ∙ ap negate flo) ∙ replace_negate hi lo lo ∙ ap negate lo_stays ∙ sym q
       again c (kept p q) = ap (λ (x : ℕ). replace hi lo (f x)) q ∙ ap (replace hi lo) (k.again c)
 
-  -- a lead after the merge is that of lo or one from before
-  pub merged_net : (P : ℕ → Type 0) (c : ℕ) → P (net (f c)) → (net (f c) ≡ net hi → P (net lo)) → P (net (merged c))
-  merged_net P c here there = go (replaced hi lo (f c))
-    where
-      go : Replaced hi lo (f c) (merged c) → P (net (merged c))
-      go (as_lead p q) = subst⁻¹ P (ap net q) (there (ap net p))
-      go (as_inverse p q) = subst⁻¹ P (ap net q ∙ net_negate lo) (there (ap net p ∙ net_negate hi))
-      go (kept p q) = subst⁻¹ P (ap net q) here
+      low : (c : ℕ) → Replaced hi lo (f c) (merged c) → net (merged c) ≤ net c
+      low c (as_lead p q) =
+          let h = k.low c in
+          let x = ap net p in
+          let y = ap net q in omega arith
+      low c (as_inverse p q) =
+          let h = k.low c in
+          let x = ap net p ∙ net_negate hi in
+          let y = ap net q ∙ net_negate lo in omega arith
+      low c (kept p q) =
+          let h = k.low c in
+          let y = ap net q in omega arith
 
   pub merged_joins : merged lo ≡ merged hi
   merged_joins = ap (replace hi lo) flo ∙ lo_stays ∙ sym (ap (replace hi lo) fhi ∙ replace_is hi lo hi lo (as_lead refl refl))

@@ -11,13 +11,13 @@ use native.Mathlib.Nat.{not-suc-le-zero, le_of_suc-le-suc}
 use lib.ListN.{length, get_or-eq_default, get_or, length-map}
 use borrow.Author.Tests.{eq-eqb, ne_eqb, lt-ltb, le-ltb}
 use Rattle.clauses.specs.Code.{negate, net}
-use Rattle.clauses.specs.Sign.{flip, is_inverse}
 use Rattle.clauses.proofs.Lists.{in_first}
 use Rattle.clauses.proofs.Codes.{same_net}
+use Rattle.clauses.specs.Sign.{flip, is_inverse}
 use Rattle.rules.specs.Grouping.{Closure}
 use Rattle.rules.specs.Answer.{lead_of}
 use Rattle.rules.specs.Compute.{Conclusion, Grouping, by_leads, everything, replace, join_leads, join_all}
-use Rattle.rules.proofs.Leads.{Leading, Lowest, kept, replace_is, replace_negate, merged, merged_leading, merged_net, merged_joins, merged_sound}
+use Rattle.rules.proofs.Leads.{Canonical, kept, replace_is, replace_negate, merged, merged_canonical, merged_joins, merged_sound}
 
 get_d_map : (f : ℕ → ℕ) (l : List ℕ) (i d : ℕ) → i < length l → get_or (map f l) i d ≡ f (get_or l i d)
 get_d_map f [] i d h = absurd (not-suc-le-zero h)
@@ -45,51 +45,21 @@ look_merged l hi lo c h = go (dec_lt (net c) (length l))
         ∙ sym (replace_flip hi lo (is_inverse c) (get_or l (net c) (2 * net c)))
 
 -- the row after a merge: the merged function
-pub lead_merged : (leads : List ℕ) (hi lo c : ℕ) → net hi ≢ 0 → net hi ≤ length leads → lead_of (map (replace hi lo) leads) c ≡ replace hi lo (lead_of leads c)
+pub lead_merged : (leads : List ℕ) (hi lo c : ℕ) → net lo < net hi → net hi ≤ length leads → lead_of (map (replace hi lo) leads) c ≡ replace hi lo (lead_of leads c)
 unfolding lead_of
-lead_merged leads hi lo c some h =
-    ap (λ (e : ℕ). look (e ∷ map (replace hi lo) leads) c) (sym (replace_is hi lo 0 0 (kept (λ e. some (sym e)) refl)))
+lead_merged leads hi lo c lower h =
+    ap (λ (e : ℕ). look (e ∷ map (replace hi lo) leads) c) (sym (replace_is hi lo 0 0 (kept (omega arith) refl)))
     ∙ look_merged (0 ∷ leads) hi lo c (suc-le-suc h)
 
 -- the lead row as it stands, with respect to what may be joined
 pub record Sound (S : ℕ → ℕ → Type 0) (leads : List ℕ) : Type 0 where
-  pub leading : Leading (lead_of leads)
-  pub low : Lowest (lead_of leads)
+  pub canonical : Canonical (lead_of leads)
   pub sound : (a b : ℕ) → lead_of leads a ≡ lead_of leads b → Closure S a b
 
 -- the row `after` joins all that `before` joins
 pub record Coarser (before after : List ℕ) : Type 0 where
   pub still : (a b : ℕ) → lead_of before a ≡ lead_of before b → lead_of after a ≡ lead_of after b
   pub size : length after ≡ length before
-
--- lead hi, which is no constant, is replaced by lead lo
-module _ (leads : List ℕ) (k : Leading (lead_of leads)) (lo hi : ℕ) (flo : lead_of leads lo ≡ lo) (fhi : lead_of leads hi ≡ hi) (apart : net lo ≢ net hi) (some : net hi ≢ 0)
-    (inside : net hi ≤ length leads) where
-  abbrev merge : List ℕ
-  merge = map (replace hi lo) leads
-
-  ext : lead_of merge ≡ merged (lead_of leads) k lo hi flo fhi apart some
-  ext = fun_ext (λ c. lead_merged leads hi lo c some inside)
-
-  pub merge_leading : Leading (lead_of merge)
-  merge_leading = subst⁻¹ Leading ext (merged_leading (lead_of leads) k lo hi flo fhi apart some)
-
-  pub merge_net : (P : ℕ → Type 0) (c : ℕ) → P (net (lead_of leads c)) → (net (lead_of leads c) ≡ net hi → P (net lo)) → P (net (lead_of merge c))
-  merge_net P c here there = subst⁻¹ (λ (f : ℕ → ℕ). P (net (f c))) ext (merged_net (lead_of leads) k lo hi flo fhi apart some P c here there)
-
-  pub merge_coarser : Coarser leads merge
-  merge_coarser =
-      record {
-        still = λ a b e. lead_merged leads hi lo a some inside ∙ ap (replace hi lo) e ∙ sym (lead_merged leads hi lo b some inside);
-        size = length-map leads (replace hi lo);
-      }
-
-  pub merge_joins : lead_of merge lo ≡ lead_of merge hi
-  merge_joins = subst⁻¹ (λ (f : ℕ → ℕ). f lo ≡ f hi) ext (merged_joins (lead_of leads) k lo hi flo fhi apart some)
-
-  pub merge_sound : (S : ℕ → ℕ → Type 0) → ((a b : ℕ) → lead_of leads a ≡ lead_of leads b → Closure S a b) → Closure S lo hi
-      → (a b : ℕ) → lead_of merge a ≡ lead_of merge b → Closure S a b
-  merge_sound S sound add = subst⁻¹ (λ (f : ℕ → ℕ). (a b : ℕ) → f a ≡ f b → Closure S a b) ext (merged_sound (lead_of leads) k lo hi flo fhi apart some S sound add)
 
 pub record Merged (S : ℕ → ℕ → Type 0) (before : List ℕ) (a b : ℕ) (after : List ℕ) : Type 0 where
   pub row : Sound S after
@@ -98,29 +68,29 @@ pub record Merged (S : ℕ → ℕ → Type 0) (before : List ℕ) (a b : ℕ) (
 
 module _ (S : ℕ → ℕ → Type 0) (leads : List ℕ) (s : Sound S leads) where
   module _ (lo hi : ℕ) (flo : lead_of leads lo ≡ lo) (fhi : lead_of leads hi ≡ hi) (lower : net lo < net hi) (inside : net hi ≤ length leads) (add : Closure S lo hi) where
+    ext : lead_of (map (replace hi lo) leads) ≡ merged (lead_of leads) s.canonical lo hi flo fhi lower
+    ext = fun_ext (λ c. lead_merged leads hi lo c lower inside)
+
     merge_rows : Merged S leads lo hi (map (replace hi lo) leads)
     merge_rows =
         record {
           row = record {
-            leading = merge_leading leads s.leading lo hi flo fhi (omega arith) (omega arith) inside;
-            low = low;
-            sound = merge_sound leads s.leading lo hi flo fhi (omega arith) (omega arith) inside S s.sound add;
+            canonical = subst⁻¹ Canonical ext (merged_canonical (lead_of leads) s.canonical lo hi flo fhi lower);
+            sound = subst⁻¹ (λ (f : ℕ → ℕ). (a b : ℕ) → f a ≡ f b → Closure S a b) ext (merged_sound (lead_of leads) s.canonical lo hi flo fhi lower S s.sound add);
           };
-          coarser = merge_coarser leads s.leading lo hi flo fhi (omega arith) (omega arith) inside;
-          joins = merge_joins leads s.leading lo hi flo fhi (omega arith) (omega arith) inside;
+          coarser = record {
+            still = λ a b e. lead_merged leads hi lo a lower inside ∙ ap (replace hi lo) e ∙ sym (lead_merged leads hi lo b lower inside);
+            size = length-map leads (replace hi lo);
+          };
+          joins = subst⁻¹ (λ (f : ℕ → ℕ). f lo ≡ f hi) ext (merged_joins (lead_of leads) s.canonical lo hi flo fhi lower);
         }
-      where
-        low : Lowest (lead_of (map (replace hi lo) leads))
-        low c =
-            merge_net leads s.leading lo hi flo fhi (omega arith) (omega arith) inside (λ (n : ℕ). n ≤ net c) c (s.low c)
-            (λ e. let h = s.low c in omega arith)
 
   abbrev pub Outcome : ℕ → ℕ → Grouping → Type 0
   Outcome a b (by_leads l) = Merged S leads a b l
   Outcome a b everything = Closure S 1 0
 
   lead_joined : (a : ℕ) → Closure S a (lead_of leads a)
-  lead_joined a = s.sound a (lead_of leads a) (sym (s.leading.again a))
+  lead_joined a = s.sound a (lead_of leads a) (sym (s.canonical.again a))
 
   -- a merge of leads joins what they lead
   carried : (a b : ℕ) (l : List ℕ) → Merged S leads (lead_of leads a) (lead_of leads b) l → Merged S leads a b l
@@ -128,7 +98,7 @@ module _ (S : ℕ → ℕ → Type 0) (leads : List ℕ) (s : Sound S leads) whe
       record {
         row = h.row;
         coarser = h.coarser;
-        joins = h.coarser.still a (lead_of leads a) (sym (s.leading.again a)) ∙ h.joins ∙ h.coarser.still (lead_of leads b) b (s.leading.again b);
+        joins = h.coarser.still a (lead_of leads a) (sym (s.canonical.again a)) ∙ h.joins ∙ h.coarser.still (lead_of leads b) b (s.canonical.again b);
       }
 
   turned : (a b : ℕ) (l : List ℕ) → Merged S leads a b l → Merged S leads b a l
@@ -148,15 +118,15 @@ module _ (S : ℕ → ℕ → Type 0) (leads : List ℕ) (s : Sound S leads) whe
       xy = Closure.chain (Closure.back (lead_joined a)) (Closure.chain h (lead_joined b))
 
       lx : net x ≤ net a
-      lx = s.low a
+      lx = s.canonical.low a
 
       ly : net y ≤ net b
-      ly = s.low b
+      ly = s.canonical.low b
 
       opposite : (x ≡ y) ⊎ (x ≡ negate y) → x ≢ y → Closure S 1 0
       opposite (inl e) n = absurd (n e)
       opposite (inr e) n =
-          Closure.clash (Closure.chain (Closure.back h) (s.sound a (negate b) (e ∙ sym (s.leading.inverse b))))
+          Closure.clash (Closure.chain (Closure.back h) (s.sound a (negate b) (e ∙ sym (s.canonical.inverse b))))
 
       go : Dec (net x ≡ net y) → Dec (x ≡ y) → Dec (net x < net y) → Outcome a b (join_leads leads x y)
       go (yes e) (yes q) d =
@@ -166,12 +136,12 @@ module _ (S : ℕ → ℕ → Type 0) (leads : List ℕ) (s : Sound S leads) whe
           rw (eq-eqb (net x) (net y) e, ne_eqb x y n, join_leads) (opposite (same_net x y e) n)
       go (no n) q (yes d) =
           rw (ne_eqb (net x) (net y) n, lt-ltb (net x) (net y) d, join_leads)
-          (carried a b (map (replace y x) leads) (merge_rows x y (s.leading.again a) (s.leading.again b) d (omega (arith, ly)) xy))
+          (carried a b (map (replace y x) leads) (merge_rows x y (s.canonical.again a) (s.canonical.again b) d (omega (arith, ly)) xy))
       go (no n) q (no d) =
           rw (ne_eqb (net x) (net y) n, le-ltb (net x) (net y) (omega arith), join_leads)
           (carried a b (map (replace x y) leads)
           (turned y x (map (replace x y) leads)
-          (merge_rows y x (s.leading.again b) (s.leading.again a) (omega arith) (omega (arith, lx)) (Closure.back xy))))
+          (merge_rows y x (s.canonical.again b) (s.canonical.again a) (omega arith) (omega (arith, lx)) (Closure.back xy))))
 
 -- every pair of the list lies in the row and may be joined
 pub record Allowed (S : ℕ → ℕ → Type 0) (n : ℕ) (ps : List Conclusion) : Type 0 where

@@ -15,7 +15,7 @@ use Rattle.rules.specs.Answer.{Answer, own, Joined}
 use Rattle.rules.specs.Compute.{Closed, tally}
 use Rattle.rules.specs.Renaming.{Renamed}
 use Rattle.rules.proofs.Endings.{Agree, ends_once, after_forth, after_from, ends_renamed}
-use Rattle.rules.proofs.Rounds.{Row, any_row}
+use Rattle.rules.proofs.Rounds.{Row}
 use Rattle.rules.proofs.Closing.{Ran, with_row, with_none, ran_ends}
 use Rattle.rules.proofs.Groups.{groups_le}
 use Rattle.rules.proofs.Answers.{ran_joined}
@@ -24,7 +24,7 @@ module _ (v : ℕ) (ρ σ : ℕ → ℕ) (cs ds : List (List ℕ)) (im : Image �
   ran_groups : {r s : Closed} → Ran v cs limit r → Ran v ds limit s → Agree r.verdict s.verdict r.rounds s.rounds
       → length (own v r.leads) ≡ length (own v s.leads)
   ran_groups (with_row {n = n} {l = l} d e row) (with_row {n = m} {l = k} f g col) a =
-      le_antisymm (groups_le v ρ σ cs ds im out n l k (any_row row) (any_row col')) (groups_le v σ ρ ds cs (image_back im) back n k l (any_row col') (any_row row))
+      le_antisymm (groups_le v ρ σ cs ds im out n l k row col') (groups_le v σ ρ ds cs (image_back im) back n k l col' row)
     where
       col' : Row v k (After ds n)
       col' = subst⁻¹ (λ (i : ℕ). Row v k (After ds i)) a.rounds col

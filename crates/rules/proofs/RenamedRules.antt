@@ -7,9 +7,9 @@ use mathlib.Core.List.{List, [], ◌∷◌, ◌++◌, map}
 use Prim.Native.Nat.{ℕ, zero, suc}
 use Rattle.clauses.specs.Clause.{Present}
 use Rattle.clauses.specs.Lists.{Pick, first, later}
-use Rattle.clauses.specs.Sign.{plus, flip}
 use Rattle.clauses.proofs.Lists.{mem_map, mem_of_map}
 use Rattle.clauses.proofs.Renaming.{Renaming, one_stays}
+use Rattle.clauses.specs.Sign.{plus, flip}
 use Rattle.gates.specs.Gate.{Input}
 use Rattle.gates.proofs.Renamed.{flip_renamed, input_renamed, input_back, and_renamed, xor_renamed, ite_renamed}
 use Rattle.rules.specs.Rule.{Cancels, Covers, Concludes}

@@ -6,24 +6,23 @@ use mathlib.Core.Bool.{Bool, true}
 use mathlib.Core.List.{List, Memᴰ}
 use Prim.Native.Nat.{ℕ, ◌≤◌}
 use native.Mathlib.Omega.{arith}
-use native.Mathlib.Nat.{le_trans}
 use lib.ListN.{length}
 use borrow.Author.Tests.{eq-eqb, eqb-true}
 use Rattle.clauses.specs.Code.{negate, net}
 use Rattle.clauses.specs.Clause.{Mem, Present}
 use Rattle.clauses.specs.Listing.{Fits}
-use Rattle.clauses.specs.Sign.{plus, flip}
 use Rattle.clauses.proofs.Lists.{in_first, in_second, in_third}
 use Rattle.clauses.proofs.Codes.{net_negate}
 use Rattle.clauses.proofs.Clauses.{fits_present}
-use Rattle.clauses.proofs.Signs.{net_flip}
+use Rattle.clauses.specs.Sign.{plus, flip}
 use Rattle.gates.specs.Gate.{Input, XorGate}
+use Rattle.clauses.proofs.Signs.{net_flip}
 use Rattle.gates.proofs.Xors.{xor_fits}
 use Rattle.rules.specs.Rule.{Concludes}
 use Rattle.rules.specs.Grouping.{Closure, Next}
 use Rattle.rules.specs.Answer.{lead_of}
 use Rattle.rules.specs.Compute.{Conclusion, gates_of, conclusions, Grouping, by_leads, everything, join_all, same_lead, round}
-use Rattle.rules.proofs.Leads.{Lowest, Represents, kernel_closed}
+use Rattle.rules.proofs.Leads.{Represents, kernel_closed}
 use Rattle.rules.proofs.Merging.{Sound, Allowed, Result, join-all}
 use Rattle.rules.proofs.ConclusionsSound.{conclusions_sound}
 use Rattle.rules.proofs.ConclusionsComplete.{conclusions_complete}
@@ -40,16 +39,6 @@ is_same_lead leads a b h = eq-eqb (lead_of leads a) (lead_of leads b) h
 pub record Row (v : ℕ) (leads : List ℕ) (G : ℕ → ℕ → Type 0) : Type 0 where
   pub size : length leads ≡ v
   pub rep : Represents (lead_of leads) G
-  pub low : Lowest (lead_of leads)
-
--- .. whichever net of a group leads it
-pub record AnyRow (v : ℕ) (leads : List ℕ) (G : ℕ → ℕ → Type 0) : Type 0 where
-  pub size : length leads ≡ v
-  pub rep : Represents (lead_of leads) G
-  pub inside : (c : ℕ) → net c ≤ v → net (lead_of leads c) ≤ v
-
-pub any_row : {v : ℕ} {leads : List ℕ} {G : ℕ → ℕ → Type 0} → Row v leads G → AnyRow v leads G
-any_row r = record { size = r.size; rep = r.rep; inside = λ c h. le_trans (r.low c) h }
 
 -- what a round over G has made
 abbrev pub Made : ℕ → List (List ℕ) → (ℕ → ℕ → Type 0) → Grouping → Type 0
@@ -98,7 +87,7 @@ module _ (v : ℕ) (cs : List (List ℕ)) (fit : Fits v cs) where
       says = conclusions_sound (same_lead leads) G (λ a b h. r.rep.sound a b (same_lead_is leads a b h)) cs v
 
       start : Sound (Next cs G) leads
-      start = record { leading = r.rep.leading; low = r.low; sound = λ a b e. Closure.base (inl (r.rep.sound a b e)) }
+      start = record { canonical = r.rep.canonical; sound = λ a b e. Closure.base (inl (r.rep.sound a b e)) }
 
       inside : {n : ℕ} → n ≤ v → n ≤ length leads
       inside h = rw r.size h
@@ -116,12 +105,11 @@ module _ (v : ℕ) (cs : List (List ℕ)) (fit : Fits v cs) where
       finish (by_leads l) h =
           record {
             size = h.coarser.size ∙ r.size;
-            rep = record { leading = h.row.leading; sound = h.row.sound; complete = λ a b c. kernel_closed (lead_of l) h.row.leading (Next cs G) joins c };
-            low = h.row.low;
+            rep = record { canonical = h.row.canonical; sound = h.row.sound; complete = λ a b c. kernel_closed (lead_of l) h.row.canonical (Next cs G) joins c };
           }
         where
           joins : (a b : ℕ) → Next cs G a b → lead_of l a ≡ lead_of l b
           joins a b (inl g) = h.coarser.still a b (r.rep.complete a b g)
           joins a b (inr c) =
               conclusions_complete (same_lead leads) G (λ x y g. is_same_lead leads x y (r.rep.complete x y g)) (lead_of leads) r.rep cs v fit
-              (lead_of l) h.row.leading h.joins c
+              (lead_of l) h.row.canonical h.joins c

@@ -15,9 +15,8 @@ use Rattle.rules.proofs.Rounds.{Row}
 use Rattle.rules.proofs.Closing.{Ran, with_row, with_none, closed_ran, closed_is}
 
 module _ (v : ℕ) (cs ds : List (List ℕ)) (same : (c : List ℕ) → Present cs c ↔ Present ds c) where
-  -- the renaming that changes no name
-  pub same_image : Image (λ x. x) (λ x. x) cs ds
-  same_image =
+  image : Image (λ x. x) (λ x. x) cs ds
+  image =
       record {
         ren = same_names;
         forth = images_included (λ c. (same c).0);
@@ -29,16 +28,15 @@ module _ (v : ℕ) (cs ds : List (List ℕ)) (same : (c : List ℕ) → Present 
       record {
         size = r.size;
         rep = record {
-          leading = r.rep.leading;
+          canonical = r.rep.canonical;
           sound = λ a b e. after_more (λ c. (same c).0) n a b (r.rep.sound a b e);
           complete = λ a b h. r.rep.complete a b (after_more (λ c. (same c).1) n a b h);
         };
-        low = r.low;
       }
 
   ran_same : (limit : ℕ) {r : Closed} → Ran v cs limit r → Ran v ds limit r
-  ran_same limit (with_row {n = n} {l = l} d e row) = with_row d (ends_renamed (λ x. x) (λ x. x) cs ds same_image limit e) (row_same n l row)
-  ran_same limit (with_none e) = with_none (ends_renamed (λ x. x) (λ x. x) cs ds same_image limit e)
+  ran_same limit (with_row {n = n} {l = l} d e row) = with_row d (ends_renamed (λ x. x) (λ x. x) cs ds image limit e) (row_same n l row)
+  ran_same limit (with_none e) = with_none (ends_renamed (λ x. x) (λ x. x) cs ds image limit e)
 
   pub closed_same : Fits v cs → Fits v ds → (limit : ℕ) → closed v cs limit ≡ closed v ds limit
   closed_same p q limit = closed_is v ds q limit (closed v cs limit) (ran_same limit (closed_ran v cs p limit))

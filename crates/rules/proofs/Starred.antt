@@ -2,16 +2,16 @@
 -- Assumes nothing.
 use mathlib.Core.Path.{◌≡◌, refl, sym, ◌∙◌, ap}
 use mathlib.Core.Bool.{true}
-use mathlib.Core.List.{List, [], ◌∷◌, map, Memᴰ}
+use mathlib.Core.List.{List, ◌∷◌, map, Memᴰ}
 use Prim.Native.Nat.{suc}
 use Rattle.clauses.specs.Lists.{any, all, keep, each, also, only, from, same_list, picks, choose}
 use Rattle.clauses.specs.Listing.{mem, within, same_set, tautology, present, literals, clause_sets, Fits, fits}
-use Rattle.clauses.specs.Sign.{is_inverse}
-use Rattle.clauses.specs.Code.{nets_of}
 use Rattle.clauses.proofs.Lists.{all_have}
 use Rattle.clauses.proofs.Clauses.{fits_is}
+use Rattle.clauses.specs.Sign.{is_inverse}
 use Rattle.gates.specs.Listing.{ands, signings, xor_clauses, literals_of, is_then, is_else, ites}
 use Rattle.gates.specs.Count.{and_count, xors, xor_count, is_plain, ite_count}
+use Rattle.clauses.specs.Code.{nets_of}
 use Rattle.rules.specs.Answer.{lead_of, own}
 use Rattle.rules.specs.Compute.{parities, by_clause, by_and, covers, by_ands, by_xor, by_xors, by_ite, by_ites, gates_of, alone_and_paired, conclusions, replace, join_leads, join_all, same_lead, round, run, closed, tally, answer}
 use Rattle.rules.specs.Starred.{Starred, starred}
@@ -26,7 +26,7 @@ table_fits = refl
 
 -- where two functions agree on a list, they agree on each of its elements
 map_agree : {A B : Type 0} (f g : A → B) {x : A} (l : List A) → map f l ≡ map g l → Memᴰ x l → f x ≡ g x
-map_agree {A = A} {B = B} f g [] e x3 = elim x3 [ ]
+map_agree {A = A} {B = B} f g mathlib.Core.List.[] e x3 = elim x3 [ ]
 map_agree f g (y ∷ l) e (Memᴰ.head q) = let z : f y ≡ g y = cc in ap f q ∙ z ∙ sym (ap g q)
 map_agree f g (y ∷ l) e (Memᴰ.tail k) = let z : map f l ≡ map g l = cc in map_agree f g l z k
 

@@ -13,9 +13,10 @@ use Rattle.clauses.specs.Listing.{present}
 use Rattle.clauses.proofs.Lists.{all_have}
 use Rattle.clauses.proofs.Codes.{negate_negate}
 use Rattle.clauses.proofs.Clauses.{present_is}
-use Rattle.clauses.proofs.Signs.{plus_false, plus_self, plus_cancel, plus_comm, plus_assoc, parity_pick, parity_append}
+use Rattle.clauses.specs.Sign.{plus, flip, parity}
 use Rattle.gates.specs.Gate.{Input, AndGate, XorGate, IteGate}
 use Rattle.gates.specs.Listing.{signings}
+use Rattle.clauses.proofs.Signs.{plus_false, plus_self, plus_cancel, plus_comm, plus_assoc, parity_pick, parity_append}
 use Rattle.gates.proofs.XorsListed.{all_signed}
 use Rattle.rules.specs.Rule.{Cancels, Covers, Concludes}
 use Rattle.rules.specs.Grouping.{Closure, Nothing, Next, After}
@@ -23,7 +24,6 @@ use Rattle.rules.specs.Ending.{Clash}
 use Rattle.rules.specs.Answer.{lead_of}
 use Rattle.rules.specs.Compute.{Closed}
 use Rattle.clauses.specs.Assignment.{Assignment, True, Satisfies}
-use Rattle.clauses.specs.Sign.{plus, flip, parity}
 use Rattle.rules.proofs.Endings.{ends_clash}
 use Rattle.rules.proofs.Encodings.{rest_true, only_true, inverse_is, equal_says, xor_says, ite_says}
 use Rattle.rules.proofs.Closing.{Ran, with_row, with_none, entry}
@@ -195,5 +195,5 @@ pub ran_true : {v : ℕ} {cs : List (List ℕ)} {limit : ℕ} (value : ℕ → B
 ran_true {cs = cs} value asg sat (with_row {n = n} {l = l} d e row) i h =
     after_true value asg cs sat n (2 * suc i) (get_or l i 0)
     (subst (After cs n (2 * suc i)) (entry l i 0 (subst⁻¹ (λ (k : ℕ). i < k) row.size h))
-    (row.rep.sound (2 * suc i) (lead_of l (2 * suc i)) (sym (row.rep.leading.again (2 * suc i)))))
+    (row.rep.sound (2 * suc i) (lead_of l (2 * suc i)) (sym (row.rep.canonical.again (2 * suc i)))))
 ran_true {cs = cs} value asg sat (with_none {n = n} e) i h = absurd (satisfied_apart value asg cs sat n (ends_clash e 1 0))

@@ -4,12 +4,13 @@
 use Rattle.std.specs.Prelude.{Bool, true, false, not, ◌&&◌, ◌||◌, List, [], ◌∷◌, ◌++◌, map, ℕ, zero, suc, length, replicate, eqb, ltb}
 use Rattle.rules.specs.declared.Verdict.{Verdict}
 use Rattle.rules.specs.declared.Verdict.TheVariants.{Contradiction, Settled, Unfinished}
-use Rattle.clauses.specs.Code.{negate, net, nets_of}
+use Rattle.clauses.specs.Code.{negate, net}
 use Rattle.clauses.specs.Lists.{any, all, each, also, only, same_list, picks}
 use Rattle.clauses.specs.Listing.{same_set, present, clause_sets}
 use Rattle.clauses.specs.Sign.{flip}
 use Rattle.gates.specs.Listing.{And, ands, xor_clauses, Ite, ites}
 use Rattle.gates.specs.Count.{and_count, xor_count, ite_count}
+use Rattle.clauses.specs.Code.{nets_of}
 use Rattle.rules.specs.Answer.{Answer, lead_of, own, no_lead}
 
 -- Conclusions, from a test of which literals are joined

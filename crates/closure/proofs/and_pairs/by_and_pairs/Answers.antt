@@ -1,8 +1,8 @@
 use mathlib.Core.Path.{refl, ◌∙◌}
 use native.Mathlib.Omega.{arith}
 use Rattle.closure.proofs.Going.{went_none, went_then, went_size, ready_on}
-use Rattle.closure.proofs.worklist.Worklists.{span_step, span_whole}
-use Rattle.closure.proofs.and_pairs.AndTables.{ands_known_all}
+use Rattle.closure.proofs.Worklists.{span_step, span_whole}
+use Rattle.closure.proofs.AndTables.{ands_known_all}
 use Rattle.closure.proofs.and_pairs.by_and_pairs.Goals as goal
 
 pub loop-i-init : goal.loop-i-init

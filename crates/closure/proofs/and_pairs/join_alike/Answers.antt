@@ -3,9 +3,9 @@ use Prim.Native.Nat.{◌-◌}
 use native.Mathlib.Omega.{arith}
 use Rattle.clauses.proofs.Starts.{literal_inside}
 use Rattle.closure.proofs.Going.{went_size, ready_on, ready_joins}
-use Rattle.closure.proofs.held.Holding.{ready_low}
+use Rattle.closure.proofs.Holding.{ready_low}
 use Rattle.closure.proofs.Tests.{told_true, told_false}
-use Rattle.closure.proofs.and_pairs.AndTables.{walk_begins, walk_ends, walk_skips, walk_joins, walk_room}
+use Rattle.closure.proofs.AndTables.{walk_begins, walk_ends, walk_skips, walk_joins, walk_room}
 use Rattle.closure.proofs.and_pairs.join_alike.Goals as goal
 use Rattle.closure.proofs.and_pairs.join_alike.Goals.{then-is_alike, else-is_alike}
 

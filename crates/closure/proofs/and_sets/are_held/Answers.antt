@@ -1,8 +1,8 @@
 use native.Mathlib.Omega.{arith}
 use borrow.Author.Tests.{not-true, not-false}
-use Rattle.closure.proofs.literals.Searches.{upto_begin, upto_on}
+use Rattle.closure.proofs.Searches.{upto_begin, upto_on}
 use Rattle.closure.proofs.Tests.{told_true, told_false}
-use Rattle.closure.proofs.and_sets.AndSets.{placed_inside, spans, held_all, not_held}
+use Rattle.closure.proofs.AndSets.{placed_inside, spans, held_all, not_held}
 use Rattle.closure.proofs.and_sets.are_held.Goals as goal
 
 pub beginning-b-requires : goal.beginning-b-requires

@@ -1,6 +1,6 @@
 use Prim.Native.Nat.{◌-◌}
 use Rattle.closure.specs.Matching.{Held}
-use Rattle.closure.proofs.literals.Searches.{Upto}
+use Rattle.closure.proofs.Searches.{Upto}
 use Rattle.closure.proofs.and_sets.are_held.Given as goal
 
 abbrev pub invariant-loop-a : goal.invariant-loop-a

@@ -1,5 +1,5 @@
 use native.Mathlib.Omega.{arith}
-use Rattle.closure.proofs.and_sets.AndSets.{placed_inside, spans, span_low, has_told}
+use Rattle.closure.proofs.AndSets.{placed_inside, spans, span_low, has_told}
 use Rattle.closure.proofs.and_sets.has_lead.Goals as goal
 
 pub beginning-b-requires : goal.beginning-b-requires

@@ -1,5 +1,5 @@
 use mathlib.Core.Path.{sym, ◌∙◌}
-use Rattle.closure.proofs.and_sets.AndSets.{common_rest}
+use Rattle.closure.proofs.AndSets.{common_rest}
 use Rattle.closure.proofs.and_sets.is_common.Goals as goal
 
 pub returns-then-a-p : goal.returns-then-a-p

@@ -1,6 +1,6 @@
 use mathlib.Core.Path.{sym, ◌∙◌}
 use native.Mathlib.Omega.{arith}
-use Rattle.closure.proofs.and_sets.AndSets.{held_rest}
+use Rattle.closure.proofs.AndSets.{held_rest}
 use Rattle.closure.proofs.and_sets.is_held.Goals as goal
 
 pub returns-then-a-p : goal.returns-then-a-p

@@ -1,6 +1,6 @@
 use borrow.Author.Tests.{not-true, not-false}
 use Rattle.closure.proofs.Tests.{told_true, told_false}
-use Rattle.closure.proofs.and_sets.AndSets.{alike_rest}
+use Rattle.closure.proofs.AndSets.{alike_rest}
 use Rattle.closure.proofs.and_sets.is_narrow_alike.Goals as goal
 
 pub is_narrow_within-requires : goal.is_narrow_within-requires

@@ -1,8 +1,8 @@
 use native.Mathlib.Omega.{arith}
 use borrow.Author.Tests.{not-true, not-false}
-use Rattle.closure.proofs.literals.Searches.{upto_begin, upto_on}
+use Rattle.closure.proofs.Searches.{upto_begin, upto_on}
 use Rattle.closure.proofs.Tests.{told_true, told_false}
-use Rattle.closure.proofs.and_sets.AndSets.{placed_inside, spans, compared_all, not_within}
+use Rattle.closure.proofs.AndSets.{placed_inside, spans, compared_all, not_within}
 use Rattle.closure.proofs.and_sets.is_narrow_within.Goals as goal
 
 pub beginning-b-requires : goal.beginning-b-requires

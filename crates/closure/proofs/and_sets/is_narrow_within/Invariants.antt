@@ -1,6 +1,6 @@
 use Prim.Native.Nat.{◌-◌}
 use Rattle.closure.specs.Matching.{Common}
-use Rattle.closure.proofs.literals.Searches.{Upto}
+use Rattle.closure.proofs.Searches.{Upto}
 use Rattle.closure.proofs.and_sets.is_narrow_within.Given as goal
 
 abbrev pub invariant-loop-a : goal.invariant-loop-a

@@ -1,6 +1,6 @@
 use borrow.Author.Tests.{not-true, not-false}
 use Rattle.closure.proofs.Tests.{told_true, told_false}
-use Rattle.closure.proofs.and_sets.AndSets.{alike_rest}
+use Rattle.closure.proofs.AndSets.{alike_rest}
 use Rattle.closure.proofs.and_sets.is_wide_alike.Goals as goal
 
 pub returns-then-not-is_wide_within : goal.returns-then-not-is_wide_within

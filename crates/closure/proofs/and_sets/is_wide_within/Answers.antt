@@ -1,4 +1,4 @@
-use Rattle.closure.proofs.and_sets.AndSets.{spans, holds_at}
+use Rattle.closure.proofs.AndSets.{spans, holds_at}
 use Rattle.closure.proofs.and_sets.is_wide_within.Goals as goal
 
 pub returns : goal.returns

@@ -2,9 +2,9 @@ use native.Mathlib.Omega.{arith}
 use Rattle.clauses.proofs.Starts.{literal_inside}
 use Rattle.closure.specs.Passing.{Clash}
 use Rattle.closure.proofs.Going.{ready_joins}
-use Rattle.closure.proofs.held.Holding.{ready_low}
+use Rattle.closure.proofs.Holding.{ready_low}
 use Rattle.closure.proofs.Tests.{told_true, told_false}
-use Rattle.closure.proofs.ands.AndOutputs.{and_true, and_one, and_clash, and_none}
+use Rattle.closure.proofs.AndOutputs.{and_true, and_one, and_clash, and_none}
 use Rattle.closure.proofs.ands.by_and.Goals as goal
 
 pub offset_bounds-codes-p : goal.offset_bounds-codes-p

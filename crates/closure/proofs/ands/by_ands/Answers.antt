@@ -1,8 +1,8 @@
 use mathlib.Core.Path.{refl, ◌∙◌}
 use native.Mathlib.Omega.{arith}
-use Rattle.closure.proofs.ands.AndOutputs.{AllAnds, all_later}
+use Rattle.closure.proofs.AndOutputs.{AllAnds, all_later}
 use Rattle.closure.proofs.Going.{went_none, went_then, went_size, ready_on}
-use Rattle.closure.proofs.worklist.Worklists.{entries_on, entries_all}
+use Rattle.closure.proofs.Worklists.{entries_on, entries_all}
 use Rattle.closure.proofs.ands.by_ands.Goals as goal
 
 pub loop-i-init : goal.loop-i-init

@@ -1,7 +1,7 @@
 use native.Mathlib.Omega.{arith}
-use Rattle.closure.proofs.literals.Searches.{upto_begin, upto_on}
+use Rattle.closure.proofs.Searches.{upto_begin, upto_on}
 use Rattle.closure.proofs.Tests.{told_true, told_false}
-use Rattle.closure.proofs.clashes.AndClashes.{held_clash, no_held_clash}
+use Rattle.closure.proofs.AndClashes.{held_clash, no_held_clash}
 use Rattle.closure.proofs.clashes.has_held_clash.Goals as goal
 
 pub loop-q-init : goal.loop-q-init

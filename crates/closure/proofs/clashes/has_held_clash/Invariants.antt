@@ -1,6 +1,6 @@
 use Prim.Native.Nat.{ℕ, ◌-◌}
 use Rattle.closure.specs.Holding.{HeldClash}
-use Rattle.closure.proofs.literals.Searches.{Upto}
+use Rattle.closure.proofs.Searches.{Upto}
 use Rattle.closure.proofs.clashes.has_held_clash.Given as goal
 
 abbrev pub invariant-loop-q : goal.invariant-loop-q

@@ -1,5 +1,5 @@
-use Rattle.closure.proofs.literals.Searches.{upto_begin, upto_on}
-use Rattle.closure.proofs.clashes.AndClashes.{clash_none}
+use Rattle.closure.proofs.Searches.{upto_begin, upto_on}
+use Rattle.closure.proofs.AndClashes.{clash_none}
 use Rattle.closure.proofs.Tests.{told_true, told_false}
 use Rattle.closure.proofs.clashes.has_narrow_clash.Goals as goal
 

@@ -1,6 +1,6 @@
 use Prim.Native.Nat.{ℕ, ◌-◌}
 use Rattle.closure.specs.Passing.{ClashAt}
-use Rattle.closure.proofs.literals.Searches.{Upto}
+use Rattle.closure.proofs.Searches.{Upto}
 use Rattle.closure.proofs.clashes.has_narrow_clash.Given as goal
 
 abbrev pub invariant-loop-q : goal.invariant-loop-q

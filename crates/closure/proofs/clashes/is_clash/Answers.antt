@@ -1,7 +1,7 @@
 use mathlib.Core.Path.{◌∙◌, sym, ap}
 use Rattle.clauses.specs.Code.{negate}
 use Rattle.closure.specs.Passing.{with_true}
-use Rattle.closure.proofs.clashes.AndClashes.{clash_skip, clash_rest}
+use Rattle.closure.proofs.AndClashes.{clash_skip, clash_rest}
 use Rattle.closure.proofs.clashes.is_clash.Goals as goal
 
 pub returns-then-q-p : goal.returns-then-q-p

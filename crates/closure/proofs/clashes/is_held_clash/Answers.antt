@@ -2,7 +2,7 @@ use mathlib.Core.Path.{sym, ◌∙◌, ap}
 use native.Mathlib.Omega.{arith}
 use Rattle.clauses.specs.Code.{negate}
 use Rattle.closure.specs.Holding.{true_lead}
-use Rattle.closure.proofs.clashes.AndClashes.{held_clash_skip, held_clash_rest}
+use Rattle.closure.proofs.AndClashes.{held_clash_skip, held_clash_rest}
 use Rattle.closure.proofs.clashes.is_held_clash.Goals as goal
 
 pub returns-then-q-p : goal.returns-then-q-p

@@ -17,10 +17,10 @@ pub slice_bounds-close_codes-end-4 : goal.slice_bounds-close_codes-end-4
 slice_bounds-close_codes-end-4 c = let s = c in sym (length-take-le s.args.v s.args.leads.now s.requires.v_le_max_nets.1)
 
 pub slice_bounds-close_codes-end-6 : goal.slice_bounds-close_codes-end-6
-slice_bounds-close_codes-end-6 c = let s = c in sym (length-take-le s.args.v s.args.old.now s.requires.v_le_max_nets.2)
+slice_bounds-close_codes-end-6 c = let s = c in sym (length-take-le s.args.v s.args.next.now s.requires.v_le_max_nets.2)
 
 pub slice_bounds-close_codes-end-8 : goal.slice_bounds-close_codes-end-8
-slice_bounds-close_codes-end-8 c = let s = c in sym (length-take-le s.args.v s.args.new.now s.requires.v_le_max_nets.3)
+slice_bounds-close_codes-end-8 c = let s = c in sym (length-take-le s.args.v s.args.older.now s.requires.v_le_max_nets.3)
 
 pub close_codes-requires : goal.close_codes-requires
 close_codes-requires c =
@@ -31,12 +31,7 @@ close_codes-requires c =
         subst⁻¹ (λ (m : ℕ). m ≤ max_nets) k s.requires.v_le_max_nets.0,
         subst⁻¹ (λ (m : ℕ). m ≤ max_entries) (length-take-le s.args.n s.args.codes.now s.requires.n_in_bounds.0) s.requires.n_in_bounds.2,
       );
-      len = (
-        length-take-le s.args.v s.args.old.now s.requires.v_le_max_nets.2 ∙ sym k,
-        length-take-le s.args.v s.args.new.now s.requires.v_le_max_nets.3 ∙ sym k,
-        length-take-le s.args.v s.args.older.now s.requires.v_le_max_nets.4 ∙ sym k,
-        length-take-le s.args.v s.args.lows.now s.requires.v_le_max_nets.5 ∙ sym k,
-      );
+      next_len = (length-take-le s.args.v s.args.next.now s.requires.v_le_max_nets.2 ∙ sym k, length-take-le s.args.v s.args.older.now s.requires.v_le_max_nets.3 ∙ sym k);
     }
 
 pub returns : goal.returns
@@ -45,9 +40,3 @@ returns c =
     let k = length-take-le s.args.v s.args.leads.now s.requires.v_le_max_nets.1 in
     let e = c.close_codes.ensures in
     record { last = _; ends = rw k at e.leads_after; left = rw k at e.groups_value; row = refl }
-
-pub slice_bounds-close_codes-end-10 : goal.slice_bounds-close_codes-end-10
-slice_bounds-close_codes-end-10 c = let s = c in sym (length-take-le s.args.v s.args.older.now s.requires.v_le_max_nets.4)
-
-pub slice_bounds-close_codes-end-12 : goal.slice_bounds-close_codes-end-12
-slice_bounds-close_codes-end-12 c = let s = c in sym (length-take-le s.args.v s.args.lows.now s.requires.v_le_max_nets.5)

@@ -6,7 +6,7 @@ use lib.ListN.{length, replicate}
 use lib.Seq.{length-take-le}
 use Rattle.clauses.specs.Limit.{max_nets}
 use Rattle.closure.specs.Closing.{max_work}
-use Rattle.closure.proofs.close.Finishing.{passed_findable, finder_left, steps_bound, steps_accepted}
+use Rattle.closure.proofs.Finishing.{passed_findable, finder_left, steps_bound, steps_accepted}
 use Rattle.closure.proofs.close.close_in.Goals as goal
 
 pub find_gates-f-requires : goal.find_gates-f-requires
@@ -32,8 +32,6 @@ close_first-e-requires c =
         s.requires.passed.lead_room,
         subst⁻¹ (λ (m : ℕ). s.args.v ≤ m) s.requires.codes_len.2 s.requires.passed.nets,
         subst⁻¹ (λ (m : ℕ). s.args.v ≤ m) s.requires.codes_len.3 s.requires.passed.nets,
-        subst⁻¹ (λ (m : ℕ). s.args.v ≤ m) s.requires.codes_len.4 s.requires.passed.nets,
-        subst⁻¹ (λ (m : ℕ). s.args.v ≤ m) s.requires.codes_len.5 s.requires.passed.nets,
       );
     }
 

@@ -1,4 +1,4 @@
-use Rattle.closure.proofs.held.Holding.{held_all}
+use Rattle.closure.proofs.Holding.{held_all}
 use Rattle.closure.proofs.held.hold.Goals as goal
 
 pub returns : goal.returns

@@ -3,7 +3,7 @@ use Prim.Native.Nat.{ℕ}
 use native.Mathlib.Omega.{arith}
 use lib.ListN.{length-set}
 use Rattle.closure.specs.Holding.{Put}
-use Rattle.closure.proofs.held.Holding.{put_begin, put_skip, put_on}
+use Rattle.closure.proofs.Holding.{put_begin, put_skip, put_on}
 use Rattle.closure.proofs.held.put.Goals as goal
 use Rattle.closure.proofs.held.put.Goals.{then-q-p, else-q-p}
 

@@ -1,4 +1,4 @@
-use Rattle.closure.proofs.held.Holding.{held_none}
+use Rattle.closure.proofs.Holding.{held_none}
 use Rattle.closure.proofs.held.release.Goals as goal
 
 pub returns : goal.returns

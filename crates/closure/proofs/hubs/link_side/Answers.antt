@@ -2,7 +2,7 @@ use native.Mathlib.Omega.{arith}
 use native.Mathlib.Nat.{mod-lt}
 use Rattle.closure.specs.IteSides.{IsSide}
 use Rattle.closure.proofs.Tests.{told_true, told_false}
-use Rattle.closure.proofs.ite_sides.SideNumbers.{hub_passed, hub_linked}
+use Rattle.closure.proofs.SideNumbers.{hub_passed, hub_linked}
 use Rattle.closure.proofs.hubs.link_side.Goals as goal
 
 pub returns-then-not-is_side : goal.returns-then-not-is_side

@@ -2,7 +2,7 @@ use mathlib.Core.Path.{◌≡◌, refl, ◌∙◌}
 use native.Mathlib.Omega.{arith}
 use lib.ListN.{length}
 use Rattle.closure.proofs.Going.{went_none, went_then, ready_on}
-use Rattle.closure.proofs.ite_groups.IteGroups.{holders_none, groups_on, groups_end}
+use Rattle.closure.proofs.IteGroups.{holders_none, groups_on, groups_end}
 use Rattle.closure.proofs.ite_groups.by_groups.Goals as goal
 
 pub returns-then-sides-from : goal.returns-then-sides-from

@@ -6,7 +6,7 @@ use Rattle.closure.specs.Marked.{Ready, Went}
 use Rattle.closure.specs.IteSides.{Hubs}
 use Rattle.closure.specs.SideTable.{SideGroups}
 use Rattle.closure.specs.IteGroups.{Holders}
-use Rattle.closure.proofs.ite_groups.IteGroups.{GroupsTo}
+use Rattle.closure.proofs.IteGroups.{GroupsTo}
 use Rattle.closure.proofs.ite_groups.by_groups.Given as goal
 
 abbrev pub invariant-loop-i : goal.invariant-loop-i

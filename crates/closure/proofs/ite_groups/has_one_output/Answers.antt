@@ -4,7 +4,7 @@ use Prim.Native.Nat.{◌-◌}
 use native.Mathlib.Omega.{arith}
 use lib.ListN.{get_or}
 use Rattle.rules.specs.Answer.{lead_of}
-use Rattle.closure.proofs.ite_groups.IteGroups.{likes_begin, likes_next, likes_less, outputs_end}
+use Rattle.closure.proofs.IteGroups.{likes_begin, likes_next, likes_less, outputs_end}
 use Rattle.closure.proofs.ite_groups.has_one_output.Goals as goal
 
 pub overflow_sub-last : goal.overflow_sub-last

@@ -1,6 +1,6 @@
 use Prim.Native.Nat.{◌-◌}
 use lib.ListN.{get_or}
-use Rattle.closure.proofs.ite_groups.IteGroups.{OutputsTo}
+use Rattle.closure.proofs.IteGroups.{OutputsTo}
 use Rattle.closure.proofs.ite_groups.has_one_output.Given as goal
 
 abbrev pub invariant-loop-k : goal.invariant-loop-k

@@ -1,4 +1,4 @@
-use Rattle.closure.proofs.ite_groups.IteGroups.{by_thens}
+use Rattle.closure.proofs.IteGroups.{by_thens}
 use Rattle.closure.proofs.ite_groups.is_alike.Goals as goal
 
 pub select_of-requires : goal.select_of-requires

@@ -1,5 +1,5 @@
 use native.Mathlib.Omega.{arith}
-use Rattle.closure.proofs.ite_groups.IteGroups.{held_none, held_alike}
+use Rattle.closure.proofs.IteGroups.{held_none, held_alike}
 use Rattle.closure.proofs.ite_groups.is_held.Goals as goal
 
 pub returns-then-f-eq0 : goal.returns-then-f-eq0

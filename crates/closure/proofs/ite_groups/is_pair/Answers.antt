@@ -1,4 +1,4 @@
-use Rattle.closure.proofs.ite_groups.IteGroups.{no_select, no_output, by_inverses}
+use Rattle.closure.proofs.IteGroups.{no_select, no_output, by_inverses}
 use Rattle.closure.proofs.ite_groups.is_pair.Goals as goal
 
 pub select_of-requires : goal.select_of-requires

@@ -2,7 +2,7 @@ use mathlib.Core.Path.{subst}
 use native.Mathlib.Omega.{arith}
 use Rattle.closure.specs.SideTable.{GroupJoined}
 use Rattle.closure.proofs.Going.{went_none}
-use Rattle.closure.proofs.ite_groups.IteGroups.{one_joined, key_of, is_last, not_last}
+use Rattle.closure.proofs.IteGroups.{one_joined, key_of, is_last, not_last}
 use Rattle.closure.proofs.ite_groups.match_group.Goals as goal
 
 pub offset_bounds-likes-i : goal.offset_bounds-likes-i

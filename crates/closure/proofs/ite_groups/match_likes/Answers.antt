@@ -2,7 +2,7 @@ use mathlib.Core.Path.{refl, ◌∙◌}
 use Prim.Native.Nat.{◌-◌}
 use native.Mathlib.Omega.{arith}
 use lib.ListN.{get_or}
-use Rattle.closure.proofs.ite_groups.IteGroups.{matchable_on, likes_less, grouping_begins, grouping_side, grouping_on, grouping_ends}
+use Rattle.closure.proofs.IteGroups.{matchable_on, likes_less, grouping_begins, grouping_side, grouping_on, grouping_ends}
 use Rattle.closure.proofs.ite_groups.match_likes.Goals as goal
 
 pub loop-k-init : goal.loop-k-init

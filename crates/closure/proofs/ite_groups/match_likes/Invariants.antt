@@ -4,7 +4,7 @@ use Prim.Native.Nat.{ℕ}
 use lib.ListN.{length}
 use Rattle.closure.specs.SideTable.{SideGroups}
 use Rattle.closure.specs.IteGroups.{Matchable}
-use Rattle.closure.proofs.ite_groups.IteGroups.{Grouping}
+use Rattle.closure.proofs.IteGroups.{Grouping}
 use Rattle.closure.proofs.ite_groups.match_likes.Given as goal
 
 abbrev pub invariant-loop-k : goal.invariant-loop-k

@@ -3,8 +3,8 @@ use native.Mathlib.Omega.{arith}
 use Rattle.rules.specs.Answer.{lead_of}
 use Rattle.closure.proofs.Tests.{told_true, told_false}
 use Rattle.closure.proofs.Going.{ready_joins}
-use Rattle.closure.proofs.ite_groups.IteGroups.{then_lead, holder_three, pair_held, pair_given}
-use Rattle.closure.proofs.ite_sides.Sides.{side_inside}
+use Rattle.closure.proofs.IteGroups.{then_lead, holder_three, pair_held, pair_given}
+use Rattle.closure.proofs.Sides.{side_inside}
 use Rattle.closure.proofs.ite_groups.match_pair.Goals as goal
 
 pub then_of-requires : goal.then_of-requires

@@ -5,7 +5,7 @@ use native.Mathlib.Nat.{mod-lt}
 use lib.ListN.{length}
 use Rattle.closure.proofs.Tests.{told_true, told_false}
 use Rattle.closure.proofs.Going.{ready_on}
-use Rattle.closure.proofs.ite_groups.IteGroups.{mating_begins, mating_side, mating_less, mating_inside, mating_skips, mating_on, mating_ends}
+use Rattle.closure.proofs.IteGroups.{mating_begins, mating_side, mating_less, mating_inside, mating_skips, mating_on, mating_ends}
 use Rattle.closure.proofs.ite_groups.match_side.Goals as goal
 use Rattle.closure.proofs.ite_groups.match_side.Goals.{then-is_pair, else-is_pair}
 

@@ -4,7 +4,7 @@ use Prim.Native.Nat.{ℕ, ◌%◌}
 use lib.ListN.{length}
 use Rattle.closure.specs.IteSides.{IsSide}
 use Rattle.closure.specs.IteGroups.{Matchable}
-use Rattle.closure.proofs.ite_groups.IteGroups.{Mating}
+use Rattle.closure.proofs.IteGroups.{Mating}
 use Rattle.closure.proofs.ite_groups.match_side.Given as goal
 
 abbrev pub invariant-loop-j : goal.invariant-loop-j

@@ -2,7 +2,7 @@ use mathlib.Core.Path.{◌∙◌, ap}
 use native.Mathlib.Omega.{arith}
 use Rattle.clauses.specs.Code.{negate}
 use Rattle.closure.proofs.Going.{went_none, ready_joins}
-use Rattle.closure.proofs.ite_mates.SideMates.{mating_from, mate_none, mate_joined}
+use Rattle.closure.proofs.SideMates.{mating_from, mate_none, mate_joined}
 use Rattle.closure.proofs.ite_mates.by_mate.Goals as goal
 
 pub overflow_cast-from : goal.overflow_cast-from

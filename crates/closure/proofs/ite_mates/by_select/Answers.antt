@@ -1,8 +1,8 @@
 use mathlib.Core.Path.{◌∙◌, ap}
 use Rattle.rules.specs.Answer.{lead_of}
-use Rattle.closure.proofs.literals.Searches.{lead_true}
+use Rattle.closure.proofs.Searches.{lead_true}
 use Rattle.closure.proofs.Going.{went_none, ready_joins}
-use Rattle.closure.proofs.ite_mates.SideMates.{side_selected}
+use Rattle.closure.proofs.SideMates.{side_selected}
 use Rattle.closure.proofs.ite_mates.by_select.Goals as goal
 
 pub returns-then-lead_of-ne1 : goal.returns-then-lead_of-ne1

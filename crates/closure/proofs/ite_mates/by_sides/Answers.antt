@@ -1,7 +1,7 @@
 use mathlib.Core.Path.{◌≡◌}
 use native.Mathlib.Omega.{arith}
 use lib.ListN.{length}
-use Rattle.closure.proofs.ite_mates.SidePass.{list_begins, list_ready, list_room, list_on, list_few}
+use Rattle.closure.proofs.SidePass.{list_begins, list_ready, list_room, list_on, list_few}
 use Rattle.closure.proofs.ite_mates.by_sides.Goals as goal
 
 pub loop-i-init : goal.loop-i-init

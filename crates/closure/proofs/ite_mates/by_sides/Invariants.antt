@@ -1,6 +1,6 @@
 use Prim.Native.Nat.{◌-◌}
 use lib.ListN.{length}
-use Rattle.closure.proofs.ite_mates.SidePass.{ListTo}
+use Rattle.closure.proofs.SidePass.{ListTo}
 use Rattle.closure.proofs.ite_mates.by_sides.Given as goal
 
 abbrev pub invariant-loop-i : goal.invariant-loop-i

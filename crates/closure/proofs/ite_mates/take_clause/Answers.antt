@@ -1,8 +1,8 @@
 use native.Mathlib.Omega.{arith}
 use Rattle.closure.proofs.Tests.{told_true, told_false}
 use Rattle.closure.proofs.Going.{went_none}
-use Rattle.closure.proofs.and_pairs.AndTables.{extends_none}
-use Rattle.closure.proofs.ite_mates.SidePass.{clause_begins, clause_passed, clause_ready, clause_taken, clause_skipped, clause_known, clause_few, clause_room}
+use Rattle.closure.proofs.AndTables.{extends_none}
+use Rattle.closure.proofs.SidePass.{clause_begins, clause_passed, clause_ready, clause_taken, clause_skipped, clause_known, clause_few, clause_room}
 use Rattle.closure.proofs.ite_mates.take_clause.Goals as goal
 use Rattle.closure.proofs.ite_mates.take_clause.Goals.{then-is_side, else-is_side}
 

@@ -1,5 +1,5 @@
 use Prim.Native.Nat.{◌-◌, ◌*◌}
-use Rattle.closure.proofs.ite_mates.SidePass.{ClauseTo}
+use Rattle.closure.proofs.SidePass.{ClauseTo}
 use Rattle.closure.proofs.ite_mates.take_clause.Given as goal
 
 abbrev pub invariant-loop-s : goal.invariant-loop-s

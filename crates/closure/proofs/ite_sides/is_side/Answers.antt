@@ -1,4 +1,4 @@
-use Rattle.closure.proofs.ite_sides.SideNumbers.{no_side, side_told}
+use Rattle.closure.proofs.SideNumbers.{no_side, side_told}
 use Rattle.closure.proofs.ite_sides.is_side.Goals as goal
 
 pub returns-then-codes-p-eq0 : goal.returns-then-codes-p-eq0

@@ -1,5 +1,5 @@
 use mathlib.Core.Path.{◌∙◌}
-use Rattle.closure.proofs.ite_sides.SideNumbers.{after_is, other_is_next, other_is_after}
+use Rattle.closure.proofs.SideNumbers.{after_is, other_is_next, other_is_after}
 use Rattle.closure.proofs.ite_sides.other.Goals as goal
 
 pub returns-then-next : goal.returns-then-next

@@ -1,4 +1,4 @@
-use Rattle.closure.proofs.ite_sides.SideNumbers.{output_is}
+use Rattle.closure.proofs.SideNumbers.{output_is}
 use Rattle.closure.proofs.ite_sides.output_of.Goals as goal
 
 pub returns : goal.returns

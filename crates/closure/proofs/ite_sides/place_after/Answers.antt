@@ -1,4 +1,4 @@
-use Rattle.closure.proofs.ite_sides.SideNumbers.{last_high, last_next, other_next, placed}
+use Rattle.closure.proofs.SideNumbers.{last_high, last_next, other_next, placed}
 use Rattle.closure.proofs.ite_sides.place_after.Goals as goal
 
 pub overflow_sub-result : goal.overflow_sub-result

@@ -1,9 +1,8 @@
-use mathlib.Core.Path.{◌∙◌}
-use Rattle.closure.proofs.ite_sides.SideNumbers.{tells_next, tells_after}
+use Rattle.closure.proofs.SideNumbers.{next_told, after_told}
 use Rattle.closure.proofs.ite_sides.tells_of.Goals as goal
 
 pub returns-then-s-eq0 : goal.returns-then-s-eq0
-returns-then-s-eq0 c = c.is_select_next.ensures ∙ tells_next _ _ c.if-s-eq0.true
+returns-then-s-eq0 c = next_told _ _ c.if-s-eq0.true
 
 pub returns : goal.returns
-returns c = c.is_select_after.ensures ∙ tells_after _ _ c.if-s-eq0.false
+returns c = after_told _ _ c.if-s-eq0.false

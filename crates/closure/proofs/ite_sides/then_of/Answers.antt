@@ -1,4 +1,4 @@
-use Rattle.closure.proofs.ite_sides.SideNumbers.{then_is}
+use Rattle.closure.proofs.SideNumbers.{then_is}
 use Rattle.closure.proofs.ite_sides.then_of.Goals as goal
 
 pub returns : goal.returns

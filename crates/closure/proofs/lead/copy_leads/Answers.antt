@@ -3,7 +3,7 @@ use Prim.Native.Nat.{◌<◌}
 use native.Mathlib.Omega.{arith}
 use lib.ListN.{length, get_or, length-set}
 use lib.Seq.{ext_get_or}
-use Rattle.closure.proofs.lead.Maps.{written_none, written_more}
+use Rattle.closure.proofs.Maps.{written_none, written_more}
 use borrow.Author.Rules.{rules}
 use Rattle.closure.proofs.lead.copy_leads.Goals as goal
 

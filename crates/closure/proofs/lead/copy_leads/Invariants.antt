@@ -1,7 +1,7 @@
 use mathlib.Core.Path.{◌≡◌}
 use Prim.Native.Nat.{◌-◌, ◌≤◌}
 use lib.ListN.{length, get_or}
-use Rattle.closure.proofs.lead.Maps.{Written}
+use Rattle.closure.proofs.Maps.{Written}
 use Rattle.closure.proofs.lead.copy_leads.Given as goal
 
 abbrev pub invariant-loop-i : goal.invariant-loop-i

@@ -4,7 +4,7 @@ use native.Mathlib.Omega.{arith}
 use lib.ListN.{length, length-set}
 use lib.Seq.{ext_get_or}
 use Rattle.clauses.specs.Code.{nets_of}
-use Rattle.closure.proofs.lead.Maps.{written_none, written_more}
+use Rattle.closure.proofs.Maps.{written_none, written_more}
 use Rattle.rules.proofs.Closing.{nets_of_length, nets_of_at}
 use borrow.Author.Rules.{rules}
 use Rattle.closure.proofs.lead.first_leads.Goals as goal

@@ -1,7 +1,7 @@
 use mathlib.Core.Path.{◌≡◌}
 use Prim.Native.Nat.{◌+◌, ◌*◌, ◌-◌, ◌≤◌}
 use lib.ListN.{length}
-use Rattle.closure.proofs.lead.Maps.{Written}
+use Rattle.closure.proofs.Maps.{Written}
 use Rattle.closure.proofs.lead.first_leads.Given as goal
 
 abbrev pub invariant-loop-i : goal.invariant-loop-i

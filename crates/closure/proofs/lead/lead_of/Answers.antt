@@ -1,5 +1,5 @@
 use mathlib.Core.Path.{◌∙◌}
-use Rattle.closure.proofs.tally.Joining.{lead_constant, lead_outside, lead_inside}
+use Rattle.closure.proofs.Joining.{lead_constant, lead_outside, lead_inside}
 use Rattle.closure.proofs.lead.lead_of.Goals as goal
 
 pub returns-then-w-eq0 : goal.returns-then-w-eq0

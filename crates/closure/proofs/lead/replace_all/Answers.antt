@@ -4,7 +4,7 @@ use lib.ListN.{length, get_or, length-set}
 use native.Mathlib.Omega.{arith}
 use borrow.Author.Rules.{rules}
 use Rattle.rules.specs.Compute.{replace}
-use Rattle.closure.proofs.lead.Maps.{map_first_none, map_first_at, map_first_more, map_first_all}
+use Rattle.closure.proofs.Maps.{map_first_none, map_first_at, map_first_more, map_first_all}
 use Rattle.closure.proofs.lead.replace_all.Goals as goal
 
 pub loop-i-init : goal.loop-i-init

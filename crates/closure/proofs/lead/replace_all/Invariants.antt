@@ -2,7 +2,7 @@ use mathlib.Core.Path.{◌≡◌}
 use Prim.Native.Nat.{◌≤◌, ◌-◌}
 use lib.ListN.{length}
 use Rattle.rules.specs.Compute.{replace}
-use Rattle.closure.proofs.lead.Maps.{map_first}
+use Rattle.closure.proofs.Maps.{map_first}
 use Rattle.closure.proofs.lead.replace_all.Given as goal
 
 abbrev pub invariant-loop-i : goal.invariant-loop-i

@@ -1,5 +1,5 @@
 use mathlib.Core.Path.{◌∙◌}
-use Rattle.closure.proofs.tally.Joining.{replace_lead, replace_inverse, replace_other}
+use Rattle.closure.proofs.Joining.{replace_lead, replace_inverse, replace_other}
 use Rattle.closure.proofs.lead.replaced.Goals as goal
 
 pub returns-then-e-hi : goal.returns-then-e-hi

@@ -1,7 +1,7 @@
 use mathlib.Core.Path.{subst⁻¹}
 use lib.ListN.{length}
 use Rattle.closure.specs.Passing.{is_ending, First}
-use Rattle.closure.proofs.literals.Searches.{clause_ending}
+use Rattle.closure.proofs.Searches.{clause_ending}
 use Rattle.closure.proofs.literals.ending.Goals as goal
 
 pub returns : goal.returns

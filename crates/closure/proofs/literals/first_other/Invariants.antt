@@ -1,6 +1,6 @@
 use Prim.Native.Nat.{◌-◌}
 use Rattle.closure.specs.Passing.{is_other}
-use Rattle.closure.proofs.literals.Searches.{Passed}
+use Rattle.closure.proofs.Searches.{Passed}
 use Rattle.closure.proofs.literals.first_other.Given as goal
 
 abbrev pub invariant-loop-q : goal.invariant-loop-q

@@ -1,5 +1,5 @@
 use mathlib.Core.Path.{◌∙◌, sym}
-use Rattle.closure.proofs.literals.Searches.{passed_begin, passed_on, first_here, first_none}
+use Rattle.closure.proofs.Searches.{passed_begin, passed_on, first_here, first_none}
 use Rattle.closure.proofs.literals.first_with.Goals as goal
 
 pub loop-q-init : goal.loop-q-init

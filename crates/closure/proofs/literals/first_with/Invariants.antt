@@ -1,6 +1,6 @@
 use Prim.Native.Nat.{◌-◌}
 use Rattle.closure.specs.Passing.{is_with}
-use Rattle.closure.proofs.literals.Searches.{Passed}
+use Rattle.closure.proofs.Searches.{Passed}
 use Rattle.closure.proofs.literals.first_with.Given as goal
 
 abbrev pub invariant-loop-q : goal.invariant-loop-q

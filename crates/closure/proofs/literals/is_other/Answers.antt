@@ -2,7 +2,7 @@ use mathlib.Core.Path.{◌∙◌, sym, ap}
 use mathlib.Core.Bool.{not}
 use Prim.Native.Nat.{ℕ}
 use lib.Dec.{eqb}
-use Rattle.closure.proofs.literals.Searches.{other_skip, other_false, other_rest}
+use Rattle.closure.proofs.Searches.{other_skip, other_false, other_rest}
 use Rattle.closure.proofs.literals.is_other.Goals as goal
 
 pub returns-then-q-skip : goal.returns-then-q-skip

@@ -1,7 +1,7 @@
 use mathlib.Core.Path.{◌∙◌, ap}
 use Prim.Native.Nat.{ℕ}
 use lib.Dec.{eqb}
-use Rattle.closure.proofs.literals.Searches.{with_skip, with_rest}
+use Rattle.closure.proofs.Searches.{with_skip, with_rest}
 use Rattle.closure.proofs.literals.is_with.Goals as goal
 
 pub returns-then-q-skip : goal.returns-then-q-skip

@@ -1,5 +1,5 @@
 use Rattle.std.proofs.Common.{arith}
-use Rattle.closure.proofs.nets.OddNets.{toggle_none, toggle_out, toggle_in, toggle_on}
+use Rattle.closure.proofs.OddNets.{toggle_none, toggle_out, toggle_in, toggle_on}
 use Rattle.closure.proofs.nets.+toggle.Goals as goal
 
 pub returns-then-key-eq0 : goal.returns-then-key-eq0

@@ -5,7 +5,7 @@ use lib.ListN.{get_or}
 use Rattle.clauses.specs.Code.{net}
 use Rattle.rules.specs.Answer.{lead_of}
 use Rattle.closure.specs.Xors.{others, rest_of}
-use Rattle.closure.proofs.xors.XorRests.{rest_begins, rest_skips, rest_goes_on, rest_digits, rest_room}
+use Rattle.closure.proofs.XorRests.{rest_begins, rest_skips, rest_goes_on, rest_digits, rest_room}
 use Rattle.closure.proofs.nets.rest_of.Goals as goal
 use Rattle.closure.proofs.nets.rest_of.Goals.{then-q-p, else-q-p}
 

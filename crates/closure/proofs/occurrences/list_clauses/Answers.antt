@@ -7,7 +7,7 @@ use Rattle.clauses.specs.Row.{clause_at, Starts}
 use Rattle.clauses.proofs.Rows.{starts_first}
 use Rattle.clauses.proofs.Starts.{starts_behind}
 use Rattle.closure.specs.Marked.{Ended}
-use Rattle.closure.proofs.occurrences.OccurrenceIndex.{listed_more}
+use Rattle.closure.proofs.OccurrenceIndex.{listed_more}
 use Rattle.closure.proofs.occurrences.list_clauses.Goals as goal
 
 end_inside : (codes : List ℕ) → Ended codes → (b e : ℕ) → Starts codes b → e ≡ b + length (clause_at codes b) → e < length codes

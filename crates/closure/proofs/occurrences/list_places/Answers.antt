@@ -5,7 +5,7 @@ use native.Mathlib.Omega.{arith}
 use lib.ListN.{length-set}
 use lib.Seq.{get_or-set_other}
 use Rattle.closure.specs.Occurrences.{FirstTwo}
-use Rattle.closure.proofs.occurrences.OccurrenceIndex.{listed_on}
+use Rattle.closure.proofs.OccurrenceIndex.{listed_on}
 use Rattle.closure.proofs.occurrences.list_places.Goals as goal
 
 apart : (b e q k : ℕ) → b ≤ q → q < e → (k < b) ⊎ (e ≤ k) → k ≢ q

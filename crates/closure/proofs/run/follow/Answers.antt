@@ -15,10 +15,10 @@ overflow_add-rounds c = omega (arith, c.if-rounds-limit.false, c.requires.rounds
 pub returns-then-t : goal.returns-then-t
 returns-then-t c =
     rw c.end_with-then-t.ensures
-    (Followed.clashed (sym c.is_still-still.ensures ∙ c.if-still.false) (omega (arith, c.if-rounds-limit.false, c.requires.rounds_le_limit)) c.if-t.true refl)
+    (Followed.clashed (sym c.is_still-still.ensures ∙ c.if-still.false) (omega (arith, c.if-rounds-limit.false, c.requires.rounds_le_limit)) c.if-t.true c.fill.ensures)
 
 pub copy_leads-requires : goal.copy_leads-requires
-copy_leads-requires c = sym c.requires.len.1
+copy_leads-requires c = sym c.requires.next_len.1
 
 pub overflow_add-result : goal.overflow_add-result
 overflow_add-result c = omega (arith, c.if-rounds-limit.false, c.requires.rounds_le_limit, c.well_formed)

@@ -1,4 +1,4 @@
-use Rattle.closure.proofs.run.Running.{still_joins, still_clash}
+use Rattle.closure.proofs.Running.{still_joins, still_clash}
 use Rattle.closure.proofs.run.is_still.Goals as goal
 
 pub returns-then-t : goal.returns-then-t

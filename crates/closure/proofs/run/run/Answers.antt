@@ -10,16 +10,16 @@ use Rattle.closure.specs.Making.{fresh}
 use Rattle.closure.specs.KeptTables.{AndRows, XorRows, SideRows}
 use Rattle.closure.specs.Rounds.{Starting}
 use Rattle.closure.proofs.Going.{found_marked, went_then, ready_on}
-use Rattle.closure.proofs.run.RoundStarts.{found_nets, row_ready, row_making}
-use Rattle.closure.proofs.run.Loop.{between_sizes, is_over, loop_begins, few_made, next_starts, round_followed, fewer_left}
-use Rattle.closure.proofs.run.KeptRounds.{ands_known_on, xors_known_on, sides_known_on, round_joined}
-use Rattle.closure.proofs.run.KeptLoop.{and_rows, xor_rows, side_rows, Few, Rooms, rooms_list, rooms_heads, Prepared, prepared_kept, prepared_anew, side_groups, tables_left}
+use Rattle.closure.proofs.RoundStarts.{found_nets, row_ready, row_making}
+use Rattle.closure.proofs.Loop.{between_sizes, is_over, loop_begins, few_made, next_starts, round_followed, fewer_left}
+use Rattle.closure.proofs.KeptRounds.{ands_known_on, xors_known_on, sides_known_on, round_joined}
+use Rattle.closure.proofs.KeptLoop.{and_rows, xor_rows, side_rows, Few, Rooms, rooms_list, rooms_heads, Prepared, prepared_kept, prepared_anew, side_groups, tables_left}
 use Rattle.closure.proofs.run.run.Goals as goal
 use Rattle.closure.proofs.run.run.Goals.{Joined-is_anew, then-is_anew, else-is_anew}
 
 -- Where the passes begin: the round can be made
-start : (j : Joined-is_anew) → Starting j.args.codes.now j.args.marks.now j.loop-s.older j.loop-s.old j.loop-s.new j.loop-s.s.rounds j.loop-s.s.groups
-start j = let s = j.requires in next_starts s.found s.fits s.len_bound.0 s.len_bound.1 j.loop-s.invariant.0 j.loop-s-test.true
+start : (j : Joined-is_anew) → Starting j.args.codes.now j.args.marks.now j.loop-s.older j.loop-s.leads j.loop-s.next j.loop-s.s.rounds j.loop-s.s.groups
+start j = let s = j.requires in next_starts s.found s.fits s.leads_len_bound.0 s.leads_len_bound.1 j.loop-s.invariant.0 j.loop-s-test.true
 
 abbrev list_at : Joined-is_anew → List ℕ
 list_at j = take j.if-is_anew.work.clauses j.if-is_anew.list
@@ -36,7 +36,7 @@ sides_at j = side_rows j.if-is_anew.slots j.loop-s.sides j.loop-s.likes j.loop-s
 -- it finds the list and the tables prepared
 prepared : (j : Joined-is_anew)
     → (j.if-is_anew.work.clauses ≤ max_entries) × Rooms j.loop-s.seen j.if-is_anew.list j.loop-s.held j.loop-s.holders (ands_at j) (xors_at j) (sides_at j) × Few j.if-is_anew.slots
-    × Prepared j.args.codes.now j.args.marks.now j.loop-s.older j.loop-s.old j.loop-s.new (fresh j.loop-s.s.groups) (list_at j) (ands_at j) (xors_at j) (sides_at j)
+    × Prepared j.args.codes.now j.args.marks.now j.loop-s.older j.loop-s.leads j.loop-s.next (fresh j.loop-s.s.groups) (list_at j) (ands_at j) (xors_at j) (sides_at j)
 prepared j =
     let l = j.loop-s in
     let v = l.invariant in
@@ -68,17 +68,17 @@ prepared j =
 
 pub index_row-requires : goal.index_row-requires
 index_row-requires c =
-    let s = c.requires in record { ended = (s.found.ended, s.found.size, omega (arith, s.len_bound.1)); codes_in_bounds = (s.len_bound.1, s.len_bound.1, s.len_bound.1); by_index = λ q. omega (arith, found_nets s.found s.fits q, s.len_bound.0) }
+    let s = c.requires in record { ended = (s.found.ended, s.found.size, s.leads_len_bound.1); codes_in_bounds = (s.leads_len_bound.1, s.leads_len_bound.1, s.leads_len_bound.1); by_index = λ q. omega (arith, found_nets s.found s.fits q, s.leads_len_bound.0) }
 
 pub chain_hubs-requires : goal.chain_hubs-requires
 chain_hubs-requires c =
-    let s = c.requires in record { marked_of_some = (_, found_marked s.found); hubs_nonzero = (omega arith, omega (arith, s.len_bound.1), omega arith) }
+    let s = c.requires in record { marked_of_some = (_, found_marked s.found); hubs_nonzero = (omega arith, omega (arith, s.leads_len_bound.1), omega arith) }
 
 pub loop-s-init : goal.loop-s-init
 loop-s-init c =
     let s = c in
     let p = s.requires in (
-      loop_begins s.args.codes.now s.args.marks.now s.args.limit s.args.old.now s.args.new.now s.args.older.now _ p.value.0 p.value.1 p.value.2 refl refl refl,
+      loop_begins s.args.codes.now s.args.marks.now s.args.limit s.args.leads.now s.args.next.now s.args.older.now _ p.leads_value.0 p.leads_value.1 p.leads_value.2 refl refl refl,
       record {
         seen_room = refl;
         list_room = refl;
@@ -107,14 +107,14 @@ loop-s-init c =
 
 pub list_changed-work-requires : goal.list_changed-work-requires
 list_changed-work-requires c =
-    let s = c.requires in let l = c.loop-s.invariant in let z = between_sizes l.0 in let i = c.index_row in record { by_index = ((_, i.ensures), s.found.ended); older_len = (z.2 ∙ sym z.0, λ q. omega (arith, found_nets s.found s.fits q, z.0), omega (arith, z.0, s.len_bound.0, i.auto.occurs)); codes_in_bounds = (omega (arith, s.len_bound.1, l.1.seen_room), omega (arith, s.len_bound.1, l.1.list_room), omega (arith, s.len_bound.1)); by_index_2 = l.2 }
+    let s = c.requires in let l = c.loop-s.invariant in let z = between_sizes l.0 in let i = c.index_row in record { by_index = ((_, i.ensures), s.found.ended); older_len = (z.2 ∙ sym z.0, λ q. omega (arith, found_nets s.found s.fits q, z.0), omega (arith, z.0, s.leads_len_bound.0, i.auto.occurs)); codes_in_bounds = (omega (arith, s.leads_len_bound.1, l.1.seen_room), omega (arith, s.leads_len_bound.1, l.1.list_room), omega (arith, s.leads_len_bound.1)); by_index_2 = l.2 }
 
 pub is_anew-requires : goal.is_anew-requires
-is_anew-requires c = let few = c.loop-s.invariant.4 in (few.0, few.1, few.2, omega (arith, c.list_changed-work.ensures.room, c.requires.len_bound.1))
+is_anew-requires c = let few = c.loop-s.invariant.4 in (few.0, few.1, few.2, omega (arith, c.list_changed-work.ensures.room, c.requires.leads_len_bound.1))
 
 pub list_all-work-requires : goal.list_all-work-requires
 list_all-work-requires c =
-    let s = c.requires in (s.found.ended, omega (arith, s.len_bound.1, c.list_changed-work.auto.list, c.loop-s.invariant.1.list_room), omega (arith, s.len_bound.1))
+    let s = c.requires in (s.found.ended, omega (arith, s.leads_len_bound.1, c.list_changed-work.auto.list, c.loop-s.invariant.1.list_room), omega (arith, s.leads_len_bound.1))
 
 pub slice_bounds-list-end : goal.slice_bounds-list-end
 slice_bounds-list-end c =
@@ -370,7 +370,7 @@ by_groups-t-requires c =
     let z = between_sizes c.loop-s.invariant.0 in
     record {
       by_index = (_, ready_on (row_ready (start j)) (went_then (went_then (went_then (went_then (c.by_clauses-units.ensures.went) c.by_ands-outputs.ensures.went) c.by_and_pairs-ands.ensures.went) c.by_xors-xors.ensures.went) c.by_sides-ites.ensures.went), side_groups c.by_sides-ites.ensures.table, c.chain_hubs.ensures);
-      in_bounds = omega (arith, p.1.holders_room, z.0, c.requires.len_bound.0);
+      in_bounds = omega (arith, p.1.holders_room, z.0, c.requires.leads_len_bound.0);
     }
 
 pub follow-s-requires : goal.follow-s-requires
@@ -383,14 +383,14 @@ follow-s-requires c =
     let l = c.loop-s.invariant in
     let z = between_sizes l.0 in
     record {
-      len = (making.size, z.2 ∙ sym z.0);
-      rounds_le_limit = few_made s.found s.fits s.len_bound.0 s.len_bound.1 l.0 c.loop-s-test.true;
+      next_len = (making.size, z.2 ∙ sym z.0);
+      rounds_le_limit = few_made s.found s.fits s.leads_len_bound.0 s.leads_len_bound.1 l.0 c.loop-s-test.true;
     }
 
 pub loop-s-smaller : goal.loop-s-smaller
 loop-s-smaller c =
     let s = c.requires in
-    fewer_left s.found s.fits s.len_bound.0 s.len_bound.1 c.loop-s.invariant.0 c.loop-s-test.true c.follow-s.ensures
+    fewer_left s.found s.fits s.leads_len_bound.0 s.leads_len_bound.1 c.loop-s.invariant.0 c.loop-s-test.true c.follow-s.ensures
 
 pub loop-s-preserved : goal.loop-s-preserved
 loop-s-preserved c =
@@ -412,7 +412,7 @@ loop-s-preserved c =
     round_joined (found_marked s.found) making p.3.basis o.went.later a.ensures.went.later x.ensures.went.later b.ensures.went.later grouped.0.later
     c.by_clauses-units.ensures.clauses o.ands a.ensures.table a.ensures.known x.ensures.table x.ensures.known t b.ensures.known b.ensures.stays
     (λ i h l. grouped.1 i h (omega (arith, l, size))) in (
-      round_followed s.found s.fits s.len_bound.0 s.len_bound.1 l.0 c.loop-s-test.true making joined.0 _ _ f.auto.older f.ensures,
+      round_followed s.found s.fits s.leads_len_bound.0 s.leads_len_bound.1 l.0 c.loop-s-test.true making joined.0 _ _ f.auto.older f.ensures,
       record {
         seen_room = c.list_changed-work.auto.seen ∙ l.1.seen_room;
         list_room = p.1.list_room;
@@ -434,19 +434,21 @@ loop-s-preserved c =
         like-heads = b.auto.like_heads ∙ p.1.like-heads;
       },
       c.list_changed-work.ensures.seen,
-      (a.ensures.blank.0, omega (arith, a.ensures.blank.1, f.auto.old)),
+      a.ensures.blank,
       (omega (arith, a.ensures.table.table.low, a.auto.keys, p.1.and_keys), omega (arith, x.ensures.table.table.low, x.auto.keys, p.1.xor_keys), omega (arith, t.table.low, b.auto.likes, p.1.likes)),
       λ o z. tables_left making joined.1 f.ensures o,
     )
 
-pub shape_of-old : goal.shape_of-old
-shape_of-old c = (between_sizes c.loop-s.invariant.0).0
+pub shape_of-leads : goal.shape_of-leads
+shape_of-leads c = (between_sizes c.loop-s.invariant.0).0
 
-pub shape_of-new : goal.shape_of-new
-shape_of-new c = (between_sizes c.loop-s.invariant.0).1 ∙ sym (ap length c.requires.value.1)
+pub shape_of-next : goal.shape_of-next
+shape_of-next c = (between_sizes c.loop-s.invariant.0).1 ∙ sym (ap length c.requires.leads_value.1)
 
 pub shape_of-older : goal.shape_of-older
-shape_of-older c = (between_sizes c.loop-s.invariant.0).2 ∙ sym (ap length c.requires.value.2)
+shape_of-older c = (between_sizes c.loop-s.invariant.0).2 ∙ sym (ap length c.requires.leads_value.2)
 
 pub returns : goal.returns
-returns c = is_over c.loop-s.invariant.0 c.loop-s-test.false
+returns c =
+    let both = is_over c.loop-s.invariant.0 c.loop-s-test.false in
+    record { leads_after = both.0; groups_value = both.1 }

@@ -1,7 +1,7 @@
 use mathlib.Core.Path.{sym}
 use native.Mathlib.Omega.{arith}
-use Rattle.closure.proofs.side_table.SideTables.{mates_same, table_mates, like_now, side_entered, entered_stands, entered_extends}
-use Rattle.closure.proofs.and_pairs.AndTables.{extends_none}
+use Rattle.closure.proofs.SideTables.{mates_same, table_mates, like_now, side_entered, entered_stands, entered_extends}
+use Rattle.closure.proofs.AndTables.{extends_none}
 use Rattle.closure.proofs.side_table.enter_side.Goals as goal
 
 pub overflow_cast-from : goal.overflow_cast-from
@@ -34,4 +34,4 @@ overflow_add-result c = omega (arith, c.requires.count_in_bounds.0, c.requires.c
 
 pub returns : goal.returns
 returns c =
-    let e = c.enter.ensures in let y = c.link.ensures in record { table = λ marks t i. side_entered t _ c.requires.lead_row.0 c.select_of-c.ensures c.then_of.ensures c.output_of.ensures c.like_key-like.ensures c.mate_bucket-b.ensures c.requires.count_in_bounds.0 _ e.row i c.requires.lead_row.1 c.select_of-c.type_inv c.then_of.type_inv _ _ _ _ e.table y.heads y.next; stood = entered_stands c.requires.by_index.1 _ c.requires.lead_row.0 c.select_of-c.ensures c.then_of.ensures c.output_of.ensures c.like_key-like.ensures c.mate_bucket-b.ensures c.requires.count_in_bounds.0 _ e.row; stays = entered_extends c.requires.by_index.1 _ c.requires.lead_row.0 c.select_of-c.ensures c.then_of.ensures c.output_of.ensures c.like_key-like.ensures c.mate_bucket-b.ensures c.requires.count_in_bounds.0 _ e.row; few = omega arith }
+    let e = c.enter.ensures in let y = c.link.ensures in record { table = λ marks t i. side_entered t _ c.requires.lead_row c.select_of-c.ensures c.then_of.ensures c.output_of.ensures c.like_key-like.ensures c.mate_bucket-b.ensures c.requires.count_in_bounds.0 _ e.row i c.select_of-c.type_inv c.then_of.type_inv _ _ _ _ e.table y.heads y.next; stood = entered_stands c.requires.by_index.1 _ c.requires.lead_row c.select_of-c.ensures c.then_of.ensures c.output_of.ensures c.like_key-like.ensures c.mate_bucket-b.ensures c.requires.count_in_bounds.0 _ e.row; stays = entered_extends c.requires.by_index.1 _ c.requires.lead_row c.select_of-c.ensures c.then_of.ensures c.output_of.ensures c.like_key-like.ensures c.mate_bucket-b.ensures c.requires.count_in_bounds.0 _ e.row; few = omega arith }

@@ -1,4 +1,4 @@
-use Rattle.closure.proofs.side_table.SideTables.{entry_told}
+use Rattle.closure.proofs.SideTables.{entry_told}
 use Rattle.closure.proofs.side_table.is_entry.Goals as goal
 
 pub returns : goal.returns

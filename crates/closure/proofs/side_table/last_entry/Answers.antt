@@ -1,7 +1,7 @@
 use Prim.Native.Nat.{◌-◌}
 use native.Mathlib.Omega.{arith}
 use Rattle.closure.proofs.Tests.{told_true, told_false}
-use Rattle.closure.proofs.side_table.SideTables.{looking_begins, looking_low, looking_on, looking_falls, looking_hit, looking_miss}
+use Rattle.closure.proofs.SideTables.{looking_begins, looking_low, looking_on, looking_falls, looking_hit, looking_miss}
 use Rattle.closure.proofs.side_table.last_entry.Goals as goal
 
 pub loop-k-init : goal.loop-k-init

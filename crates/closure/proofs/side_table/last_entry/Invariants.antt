@@ -1,4 +1,4 @@
-use Rattle.closure.proofs.side_table.SideTables.{LookingFor}
+use Rattle.closure.proofs.SideTables.{LookingFor}
 use Rattle.closure.proofs.side_table.last_entry.Given as goal
 
 abbrev pub invariant-loop-k : goal.invariant-loop-k

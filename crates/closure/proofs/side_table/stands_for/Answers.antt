@@ -3,7 +3,7 @@ use mathlib.Core.Bool.{false≢true}
 use Prim.Native.Nat.{◌-◌, ◌<◌}
 use native.Mathlib.Omega.{arith}
 use Rattle.clauses.proofs.Lists.{not_eqb}
-use Rattle.closure.proofs.side_table.SideTables.{mates_same, mates_after, entry_inside, one_stands, two_stand}
+use Rattle.closure.proofs.SideTables.{mates_same, mates_after, entry_inside, one_stands, two_stand}
 use Rattle.closure.proofs.side_table.stands_for.Goals as goal
 
 pub last_entry-k-requires : goal.last_entry-k-requires

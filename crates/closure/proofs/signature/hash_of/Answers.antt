@@ -2,7 +2,7 @@ use mathlib.Core.Path.{refl}
 use Prim.Native.Nat.{ℕ, ◌*◌, ◌%◌}
 use native.Mathlib.Omega.{arith}
 use Rattle.closure.specs.Matching.{hash_of}
-use Rattle.closure.proofs.signature.Signatures.{product_fits}
+use Rattle.closure.proofs.Signatures.{product_fits}
 use Rattle.closure.proofs.signature.hash_of.Goals as goal
 
 pub overflow_mul-square : goal.overflow_mul-square

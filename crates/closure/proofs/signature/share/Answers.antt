@@ -1,5 +1,5 @@
 use mathlib.Core.Path.{sym, ◌∙◌}
-use Rattle.closure.proofs.signature.Signatures.{share_held, share_free}
+use Rattle.closure.proofs.Signatures.{share_held, share_free}
 use Rattle.closure.proofs.signature.share.Goals as goal
 
 pub returns-then-held-y-eq1 : goal.returns-then-held-y-eq1

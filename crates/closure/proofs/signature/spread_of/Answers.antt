@@ -2,7 +2,7 @@ use mathlib.Core.Path.{refl}
 use Prim.Native.Nat.{◌%◌}
 use native.Mathlib.Omega.{arith}
 use Rattle.closure.specs.Matching.{spread_of}
-use Rattle.closure.proofs.signature.Signatures.{product_fits}
+use Rattle.closure.proofs.Signatures.{product_fits}
 use Rattle.closure.proofs.signature.spread_of.Goals as goal
 
 pub overflow_mul-result : goal.overflow_mul-result

@@ -1,7 +1,7 @@
 use mathlib.Core.Path.{refl}
 use native.Mathlib.Omega.{arith}
 use native.Mathlib.Nat.{mod-lt}
-use Rattle.closure.proofs.table.Tables.{entered}
+use Rattle.closure.proofs.Tables.{entered}
 use Rattle.closure.proofs.table.enter.Goals as goal
 
 pub link-requires : goal.link-requires

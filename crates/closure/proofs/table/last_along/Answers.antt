@@ -1,6 +1,6 @@
 use Prim.Native.Nat.{◌-◌}
 use native.Mathlib.Omega.{arith}
-use Rattle.closure.proofs.table.Tables.{seek_begins, seek_room, seek_found, seek_ends, seek_falls, seek_on}
+use Rattle.closure.proofs.Tables.{seek_begins, seek_room, seek_found, seek_ends, seek_falls, seek_on}
 use Rattle.closure.proofs.table.last_along.Goals as goal
 
 pub loop-k-init : goal.loop-k-init

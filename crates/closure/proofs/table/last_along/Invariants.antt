@@ -1,6 +1,6 @@
 use Prim.Native.Nat.{ℕ}
 use Rattle.closure.specs.Table.{ChainFrom}
-use Rattle.closure.proofs.table.Tables.{Seeking}
+use Rattle.closure.proofs.Tables.{Seeking}
 use Rattle.closure.proofs.table.last_along.Given as goal
 
 abbrev pub invariant-loop-k : goal.invariant-loop-k

@@ -2,7 +2,7 @@ use Prim.Native.Nat.{◌%◌}
 use native.Mathlib.Omega.{arith}
 use native.Mathlib.Nat.{mod-lt}
 use lib.ListN.{length}
-use Rattle.closure.proofs.table.Tables.{chain_head}
+use Rattle.closure.proofs.Tables.{chain_head}
 use Rattle.closure.proofs.table.last_slot.Goals as goal
 
 pub nonzero_rem-b : goal.nonzero_rem-b

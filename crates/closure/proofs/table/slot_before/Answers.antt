@@ -1,6 +1,6 @@
 use Prim.Native.Nat.{◌-◌}
 use native.Mathlib.Omega.{arith}
-use Rattle.closure.proofs.table.Tables.{chain_behind}
+use Rattle.closure.proofs.Tables.{chain_behind}
 use Rattle.closure.proofs.table.slot_before.Goals as goal
 
 pub overflow_sub-at : goal.overflow_sub-at

@@ -1,8 +1,8 @@
 use native.Mathlib.Omega.{arith}
 use Rattle.closure.specs.Passing.{ClauseJoined}
-use Rattle.closure.proofs.units.Clauses.{clause_later}
+use Rattle.closure.proofs.Clauses.{clause_later}
 use Rattle.closure.proofs.Going.{went_none, went_then, went_size, ready_on}
-use Rattle.closure.proofs.worklist.Worklists.{entries_on, entries_all}
+use Rattle.closure.proofs.Worklists.{entries_on, entries_all}
 use Rattle.closure.proofs.units.by_clauses.Goals as goal
 
 pub loop-i-init : goal.loop-i-init

@@ -1,6 +1,6 @@
 use native.Mathlib.Omega.{arith}
 use Rattle.closure.proofs.Going.{ready_joins}
-use Rattle.closure.proofs.units.Clauses.{unit_none, unit_one, unit_more}
+use Rattle.closure.proofs.Clauses.{unit_none, unit_one, unit_more}
 use Rattle.closure.proofs.units.by_unit.Goals as goal
 
 pub first_other-p-requires : goal.first_other-p-requires

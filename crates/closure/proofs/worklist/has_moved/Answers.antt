@@ -1,8 +1,8 @@
 use mathlib.Core.Path.{sym, ◌∙◌}
 use mathlib.Core.Bool.{true≢false}
 use native.Mathlib.Omega.{arith}
-use Rattle.closure.proofs.literals.Searches.{upto_begin, upto_on}
-use Rattle.closure.proofs.worklist.WorklistSteps.{not_moved}
+use Rattle.closure.proofs.Searches.{upto_begin, upto_on}
+use Rattle.closure.proofs.WorklistSteps.{not_moved}
 use Rattle.closure.proofs.worklist.has_moved.Goals as goal
 use Rattle.closure.proofs.worklist.has_moved.Goals.{then-older-w, else-older-w}
 

@@ -2,7 +2,7 @@ use mathlib.Core.Path.{◌≡◌}
 use mathlib.Core.Bool.{false}
 use Prim.Native.Nat.{ℕ, ◌-◌}
 use Rattle.closure.specs.Worklist.{has_moved}
-use Rattle.closure.proofs.literals.Searches.{Upto}
+use Rattle.closure.proofs.Searches.{Upto}
 use Rattle.closure.proofs.worklist.has_moved.Given as goal
 
 abbrev pub invariant-loop-w : goal.invariant-loop-w

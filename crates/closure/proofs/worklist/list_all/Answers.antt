@@ -1,7 +1,7 @@
 use mathlib.Core.Path.{◌≡◌, refl, sym, ◌∙◌}
 use native.Mathlib.Omega.{arith}
 use lib.ListN.{length, length-set}
-use Rattle.closure.proofs.worklist.WorklistSteps.{all_none, all_more, all_starts, all_on}
+use Rattle.closure.proofs.WorklistSteps.{all_none, all_more, all_starts, all_on}
 use Rattle.closure.proofs.worklist.list_all.Goals as goal
 
 pub loop-b-init : goal.loop-b-init

@@ -1,7 +1,7 @@
 use mathlib.Core.Path.{◌≡◌}
 use Prim.Native.Nat.{◌-◌}
 use lib.ListN.{length}
-use Rattle.closure.proofs.worklist.WorklistSteps.{AllBelow}
+use Rattle.closure.proofs.WorklistSteps.{AllBelow}
 use Rattle.closure.proofs.worklist.list_all.Given as goal
 
 abbrev pub invariant-loop-b : goal.invariant-loop-b

@@ -2,7 +2,7 @@ use mathlib.Core.Path.{sym}
 use native.Mathlib.Omega.{arith}
 use lib.ListN.{take}
 use lib.Seq.{length-take-le}
-use Rattle.closure.proofs.worklist.WorklistSteps.{working_fits, working_room, working_starts, working_rest, holds_changed}
+use Rattle.closure.proofs.WorklistSteps.{working_fits, working_room, working_starts, working_rest, holds_changed}
 use Rattle.closure.proofs.worklist.list_changed.Goals as goal
 
 pub list_moved-s-requires : goal.list_moved-s-requires

@@ -1,5 +1,5 @@
 use native.Mathlib.Omega.{arith}
-use Rattle.closure.proofs.worklist.WorklistSteps.{working_fits, more_fits, list_room, working_more, more_seen}
+use Rattle.closure.proofs.WorklistSteps.{working_fits, more_fits, list_room, working_more, more_seen}
 use Rattle.closure.proofs.worklist.list_clause.Goals as goal
 
 pub bounds-seen-b : goal.bounds-seen-b

@@ -4,7 +4,7 @@ use native.Mathlib.Omega.{arith}
 use lib.Dec.{ltb}
 use lib.ListN.{get_or}
 use Rattle.closure.specs.Worklist.{has_moved, SeesTold}
-use Rattle.closure.proofs.worklist.WorklistSteps.{nets_more, nets_first, working_none}
+use Rattle.closure.proofs.WorklistSteps.{nets_more, nets_first, working_none}
 use Rattle.closure.proofs.worklist.list_moved.Goals as goal
 
 pub next_moved-w-requires : goal.next_moved-w-requires

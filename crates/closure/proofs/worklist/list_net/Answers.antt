@@ -5,7 +5,7 @@ use native.Mathlib.Omega.{arith}
 use lib.ListN.{length, get_or}
 use Rattle.clauses.specs.Row.{Starts}
 use Rattle.clauses.proofs.Chains.{walk_end, walk_falls}
-use Rattle.closure.proofs.worklist.WorklistSteps.{list_begin, Told, list_next, clause-of}
+use Rattle.closure.proofs.WorklistSteps.{list_begin, Told, list_next, clause-of}
 use Rattle.closure.proofs.worklist.list_net.Goals as goal
 use Rattle.closure.proofs.worklist.list_net.Goals.{then-tells, else-tells}
 

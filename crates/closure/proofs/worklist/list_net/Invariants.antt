@@ -4,7 +4,7 @@ use lib.ListN.{length}
 use Rattle.clauses.proofs.Chains.{Walk}
 use Rattle.closure.specs.Occurrences.{net_at}
 use Rattle.closure.specs.Worklist.{Keeps, Working, ListOf}
-use Rattle.closure.proofs.worklist.WorklistSteps.{Told}
+use Rattle.closure.proofs.WorklistSteps.{Told}
 use Rattle.closure.proofs.worklist.list_net.Given as goal
 
 abbrev pub invariant-loop-k : goal.invariant-loop-k

@@ -1,5 +1,5 @@
-use Rattle.closure.proofs.literals.Searches.{passed_on, first_here, first_none}
-use Rattle.closure.proofs.worklist.WorklistSteps.{has-moved, not_moved}
+use Rattle.closure.proofs.Searches.{passed_on, first_here, first_none}
+use Rattle.closure.proofs.WorklistSteps.{has-moved, not_moved}
 use Rattle.closure.proofs.worklist.next_moved.Goals as goal
 
 pub skip_unmoved-w-requires : goal.skip_unmoved-w-requires

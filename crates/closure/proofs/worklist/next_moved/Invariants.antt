@@ -1,7 +1,7 @@
 use Prim.Native.Nat.{◌-◌}
 use lib.ListN.{length}
 use Rattle.closure.specs.Worklist.{has_moved}
-use Rattle.closure.proofs.literals.Searches.{Passed}
+use Rattle.closure.proofs.Searches.{Passed}
 use Rattle.closure.proofs.worklist.next_moved.Given as goal
 
 abbrev pub invariant-loop-w : goal.invariant-loop-w

@@ -2,7 +2,7 @@ use mathlib.Core.Path.{refl, ◌∙◌}
 use mathlib.Core.Logic.{⊎_elim, ⊎_map}
 use native.Mathlib.Omega.{arith}
 use lib.ListN.{length-set}
-use Rattle.closure.proofs.worklist.WorklistSteps.{released}
+use Rattle.closure.proofs.WorklistSteps.{released}
 use Rattle.closure.proofs.worklist.release_list.Goals as goal
 
 pub loop-i-init : goal.loop-i-init

@@ -1,5 +1,5 @@
 use native.Mathlib.Omega.{arith}
-use Rattle.closure.proofs.literals.Searches.{passed_begin, upto_over}
+use Rattle.closure.proofs.Searches.{passed_begin, upto_over}
 use Rattle.closure.proofs.worklist.skip_unmoved.Goals as goal
 
 pub loop-w-init : goal.loop-w-init

@@ -1,5 +1,5 @@
 use native.Mathlib.Omega.{arith}
-use Rattle.closure.proofs.xors.ListedXors.{listed_begins, listed_ready, listed_room, listed_on, listed_ends}
+use Rattle.closure.proofs.ListedXors.{listed_begins, listed_ready, listed_room, listed_on, listed_ends}
 use Rattle.closure.proofs.xors.by_xors.Goals as goal
 
 pub loop-i-init : goal.loop-i-init

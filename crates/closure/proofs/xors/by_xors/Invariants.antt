@@ -1,6 +1,6 @@
 use Prim.Native.Nat.{◌-◌}
 use lib.ListN.{length}
-use Rattle.closure.proofs.xors.ListedXors.{Listed}
+use Rattle.closure.proofs.ListedXors.{Listed}
 use Rattle.closure.proofs.xors.by_xors.Given as goal
 
 abbrev pub invariant-loop-i : goal.invariant-loop-i

@@ -1,6 +1,6 @@
 use mathlib.Core.Path.{◌∙◌}
 use native.Mathlib.Omega.{arith}
-use Rattle.closure.proofs.xors.XorSteps.{alone_joined, alone_kept}
+use Rattle.closure.proofs.XorSteps.{alone_joined, alone_kept}
 use Rattle.closure.proofs.xors.join_alone.Goals as goal
 
 pub returns-then-key-lt65536 : goal.returns-then-key-lt65536

@@ -1,6 +1,5 @@
-use mathlib.Core.Path.{sym, ◌∙◌}
 use native.Mathlib.Omega.{arith}
-use Rattle.closure.proofs.xors.ListedXors.{listed_skipped, listing_begins, listing_packable, listing_room, listing_on, listing_ends}
+use Rattle.closure.proofs.ListedXors.{listed_skipped, listing_begins, listing_packable, listing_room, listing_on, listing_ends}
 use Rattle.closure.proofs.xors.take_listed.Goals as goal
 
 pub offset_bounds-list-i : goal.offset_bounds-list-i
@@ -15,9 +14,9 @@ overflow_cast-b c = omega (arith, c.shared_slice_known-5-1.given c.args.i)
 pub bounds-marks-end : goal.bounds-marks-end
 bounds-marks-end c = let s = c.requires in omega (arith, s.ready.marked.ended _ (s.are_starts.0 _ s.are_starts.1), c.clause_end-end.ensures, s.ready.marked.size)
 
-pub returns-then-not-is_xor : goal.returns-then-not-is_xor
-returns-then-not-is_xor c =
-    let s = c.requires in let e = c.clause_end-end.ensures in let r = listed_skipped _ _ s.ready s.are_starts.0 s.are_starts.1 s.xor_table s.xors_known e (sym c.is_xor.ensures ∙ c.if-not-is_xor.true) in record { went = r.went; table = r.table; known = r.known; few = r.few }
+pub returns-then-marks-end-ne1 : goal.returns-then-marks-end-ne1
+returns-then-marks-end-ne1 c =
+    let s = c.requires in let e = c.clause_end-end.ensures in let r = listed_skipped _ _ s.ready s.are_starts.0 s.are_starts.1 s.xor_table s.xors_known e c.if-marks-end-ne1.true in record { went = r.went; table = r.table; known = r.known; few = r.few }
 
 pub overflow_sub-n : goal.overflow_sub-n
 overflow_sub-n c = omega (arith, c.clause_end-end.ensures)
@@ -32,8 +31,8 @@ pub take_literal-s-requires : goal.take_literal-s-requires
 take_literal-s-requires c =
     let s = c.requires in
     let e = c.clause_end-end.ensures in
-    let room = listing_room _ _ s.ready s.are_starts.0 s.are_starts.1 s.xor_table s.xors_known e s.i_in_bounds (sym c.is_xor.ensures ∙ c.if-not-is_xor.false) c.loop-p.invariant c.loop-p-test.true in
-    record { packable = listing_packable _ _ s.ready s.are_starts.0 s.are_starts.1 s.xor_table s.xors_known e s.i_in_bounds (sym c.is_xor.ensures ∙ c.if-not-is_xor.false) c.loop-p.invariant c.loop-p-test.true; room = room.0; joins_bound = room.1 }
+    let room = listing_room _ _ s.ready s.are_starts.0 s.are_starts.1 s.xor_table s.xors_known e s.i_in_bounds c.if-marks-end-ne1.false c.loop-p.invariant c.loop-p-test.true in
+    record { packable = listing_packable _ _ s.ready s.are_starts.0 s.are_starts.1 s.xor_table s.xors_known e s.i_in_bounds c.if-marks-end-ne1.false c.loop-p.invariant c.loop-p-test.true; room = room.0; joins_bound = room.1 }
 
 pub loop-p-smaller : goal.loop-p-smaller
 loop-p-smaller c = omega (arith, c.loop-p-test.true)
@@ -42,7 +41,7 @@ pub loop-p-preserved : goal.loop-p-preserved
 loop-p-preserved c =
     let s = c.requires in
     let e = c.clause_end-end.ensures in
-    listing_on _ _ s.ready s.are_starts.0 s.are_starts.1 s.xor_table s.xors_known e s.i_in_bounds (sym c.is_xor.ensures ∙ c.if-not-is_xor.false) c.loop-p.invariant c.loop-p-test.true c.take_literal-s.ensures
+    listing_on _ _ s.ready s.are_starts.0 s.are_starts.1 s.xor_table s.xors_known e s.i_in_bounds c.if-marks-end-ne1.false c.loop-p.invariant c.loop-p-test.true c.take_literal-s.ensures
     (record {
       leads = c.take_literal-s.auto.new;
       keys = c.take_literal-s.auto.keys;

@@ -1,5 +1,5 @@
 use Prim.Native.Nat.{◌-◌}
-use Rattle.closure.proofs.xors.ListedXors.{Listing}
+use Rattle.closure.proofs.ListedXors.{Listing}
 use Rattle.closure.proofs.xors.take_listed.Given as goal
 
 abbrev pub invariant-loop-p : goal.invariant-loop-p

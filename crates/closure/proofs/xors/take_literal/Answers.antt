@@ -5,7 +5,7 @@ use lib.ListN.{get_or}
 use Rattle.clauses.specs.Sign.{flip}
 use Rattle.closure.specs.Joining.{State}
 use Rattle.closure.specs.declared.nets.Rest.{Rest}
-use Rattle.closure.proofs.xors.XorSteps.{alone_joins, stepped}
+use Rattle.closure.proofs.XorSteps.{alone_joins, stepped}
 use Rattle.closure.proofs.xors.take_literal.Goals as goal
 
 pub place-requires : goal.place-requires

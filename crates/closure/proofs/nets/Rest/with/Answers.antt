@@ -1,7 +1,7 @@
 use mathlib.Core.Path.{◌∙◌, ap}
 use mathlib.Core.Bool.{Bool}
 use Rattle.clauses.specs.Sign.{plus}
-use Rattle.closure.proofs.nets.OddNets.{rest_constant, rest_net}
+use Rattle.closure.proofs.OddNets.{rest_constant, rest_net}
 use Rattle.closure.proofs.nets.Rest.with.Goals as goal
 
 pub returns-then-w-eq0 : goal.returns-then-w-eq0

@@ -1,2 +1,0 @@
-pub mod AndPairs
-pub mod AndTables

@@ -1,2 +1,0 @@
-pub mod IteGroups
-pub mod IteRules

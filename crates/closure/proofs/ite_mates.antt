@@ -1,2 +1,0 @@
-pub mod SideMates
-pub mod SidePass

@@ -1,2 +1,0 @@
-pub mod SideNumbers
-pub mod Sides

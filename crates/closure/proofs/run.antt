@@ -1,7 +1,0 @@
-pub mod RoundStarts
-pub mod RoundsMade
-pub mod Running
-pub mod Loop
-pub mod KeptLoop
-pub mod KeptRounds
-pub mod ListedRounds

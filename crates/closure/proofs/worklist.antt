@@ -1,3 +1,0 @@
-pub mod Worklists
-pub mod WorklistSteps
-pub mod UnchangedClauses
