@@ -1,11 +1,19 @@
 // Reads a circuit as AIGER text from standard input and prints its sheet, or why it is turned away.
 
+#![tactic(auto)]
+
 use console::print_aiger_sheet;
-use libc::STDIN_FILENO;
+use std::io;
+use std::io::{Read, Write};
+use support::input::read_full;
 
 // One byte more than a text may have is held, so that a longer one is turned away and not cut short.
-fn main() {
+fn run<R: Read, W: Write>(from: &mut R, out: &mut W) -> io::Result<()> {
     let mut input = [0u8; 65537];
-    let n = io::read_full(STDIN_FILENO, &mut input);
-    print_aiger_sheet(&input[..n]);
+    let n = read_full(from, &mut input)?;
+    print_aiger_sheet(out, &input[..n])
+}
+
+fn main(rt: HostRuntime) -> io::Result<()> {
+    run(&mut rt.stdin(), &mut rt.stdout())
 }

@@ -1,4 +1,7 @@
-// What the programs share: long texts, and a refusal printed.
+// What the programs share: long texts, input read whole, and a refusal printed.
 
+#![tactic(auto)]
+
+pub mod input;
 pub mod made;
 pub mod shown;
