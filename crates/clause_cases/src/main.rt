@@ -1,108 +1,147 @@
 // Compares clauses of rows of codes where they stand, one line for each pair: its name, and whether the two are equal as sets. Then it compares
 // a clause of 8,000 literals with others, once for each byte of standard input, of which it reads 4,096, and prints `=` or `/` for each.
 
-use gates::same::is_same_set;
-use libc::{STDIN_FILENO, STDOUT_FILENO};
+#![tactic(auto)]
 
-fn show(bytes: &[u8]) {
-    io::write_all(STDOUT_FILENO, bytes);
+use gates::same::is_same_set;
+use std::io;
+use std::io::Write;
+use support::input::read_full;
+
+fn show<W: Write>(out: &mut W, bytes: &[u8]) -> io::Result<()> {
+    out.write_all(bytes)
 }
 
-fn pair(name: &[u8], codes: &[u32], a: usize, b: usize) {
-    show(name);
+fn pair<W: Write>(out: &mut W, name: &[u8], codes: &[u32], a: usize, b: usize) -> io::Result<()> {
+    show(out, name)?;
     if is_same_set(codes, a, b) {
-        show(b": equal\n");
+        show(out, b": equal\n")
     } else {
-        show(b": different\n");
+        show(out, b": different\n")
     }
 }
 
 // Which literals the two have.
-fn literal_cases() {
-    pair(b"the same order", &[2, 5, 6, 0, 2, 5, 6, 0], 0, 4);
-    pair(b"turned round", &[2, 5, 6, 0, 6, 5, 2, 0], 0, 4);
-    pair(b"another order", &[2, 5, 6, 8, 0, 6, 2, 8, 5, 0], 0, 5);
+fn literal_cases<W: Write>(out: &mut W) -> io::Result<()> {
+    pair(out, b"the same order", &[2, 5, 6, 0, 2, 5, 6, 0], 0, 4)?;
+    pair(out, b"turned round", &[2, 5, 6, 0, 6, 5, 2, 0], 0, 4)?;
+    pair(out, b"another order", &[2, 5, 6, 8, 0, 6, 2, 8, 5, 0], 0, 5)?;
     pair(
+        out,
         b"a literal that only the first has",
         &[2, 5, 6, 0, 5, 2, 0],
         0,
         4,
-    );
+    )?;
     pair(
+        out,
         b"a literal that only the second has",
         &[5, 2, 0, 2, 5, 6, 0],
         0,
         3,
-    );
-    pair(b"one literal that differs", &[2, 5, 6, 0, 6, 5, 8, 0], 0, 4);
+    )?;
     pair(
+        out,
+        b"one literal that differs",
+        &[2, 5, 6, 0, 6, 5, 8, 0],
+        0,
+        4,
+    )?;
+    pair(
+        out,
         b"the same nets with another sign",
         &[2, 5, 6, 0, 2, 4, 6, 0],
         0,
         4,
-    );
-    pair(b"a repeated literal", &[2, 5, 2, 0, 5, 2, 0], 0, 4);
-    pair(b"other literals repeated", &[2, 5, 2, 0, 5, 2, 5, 0], 0, 4);
+    )?;
+    pair(out, b"a repeated literal", &[2, 5, 2, 0, 5, 2, 0], 0, 4)?;
     pair(
+        out,
+        b"other literals repeated",
+        &[2, 5, 2, 0, 5, 2, 5, 0],
+        0,
+        4,
+    )?;
+    pair(
+        out,
         b"as many literals, of which one is repeated",
         &[2, 5, 2, 0, 5, 2, 6, 0],
         0,
         4,
-    );
-    pair(b"a net and its inverse", &[2, 3, 0, 3, 2, 0], 0, 3);
+    )?;
+    pair(out, b"a net and its inverse", &[2, 3, 0, 3, 2, 0], 0, 3)
 }
 
 // Where the two start and end.
-fn place_cases() {
-    pair(b"a clause and itself", &[2, 5, 6, 0], 0, 0);
+fn place_cases<W: Write>(out: &mut W) -> io::Result<()> {
+    pair(out, b"a clause and itself", &[2, 5, 6, 0], 0, 0)?;
     pair(
+        out,
         b"the second before the first",
         &[2, 5, 6, 0, 6, 2, 5, 0],
         4,
         0,
-    );
+    )?;
     pair(
+        out,
         b"clauses in the middle of others",
         &[8, 2, 5, 0, 6, 5, 2, 0],
         1,
         5,
-    );
-    pair(b"a part of a clause", &[2, 5, 6, 0], 0, 1);
+    )?;
+    pair(out, b"a part of a clause", &[2, 5, 6, 0], 0, 1)?;
     pair(
+        out,
         b"a literal that stands before the second",
         &[2, 8, 0, 8, 2, 0],
         0,
         4,
-    );
-    pair(b"no 0 at the row's end", &[2, 5, 0, 5, 2], 0, 3);
-    pair(b"two empty clauses", &[2, 0, 0, 5, 0], 1, 2);
-    pair(b"an empty clause and another one", &[2, 0, 0, 5, 0], 2, 3);
+    )?;
+    pair(out, b"no 0 at the row's end", &[2, 5, 0, 5, 2], 0, 3)?;
+    pair(out, b"two empty clauses", &[2, 0, 0, 5, 0], 1, 2)?;
     pair(
+        out,
+        b"an empty clause and another one",
+        &[2, 0, 0, 5, 0],
+        2,
+        3,
+    )?;
+    pair(
+        out,
         b"an empty clause before one with the first's literals",
         &[2, 5, 0, 0, 2, 5, 0],
         0,
         3,
-    );
+    )?;
     pair(
+        out,
         b"an empty clause and one past the row's end",
         &[2, 0, 0],
         2,
         3,
-    );
-    pair(b"a clause and one past the row's end", &[2, 5, 0], 0, 3);
+    )?;
     pair(
+        out,
+        b"a clause and one past the row's end",
+        &[2, 5, 0],
+        0,
+        3,
+    )?;
+    pair(
+        out,
         b"two clauses past the row's end",
         &[2, 5, 0],
         3,
         18446744073709551615,
-    );
+    )?;
     pair(
+        out,
         b"the largest start and a clause",
         &[2, 5, 0],
         18446744073709551615,
         0,
-    );
-    pair(b"an empty row", &[], 0, 0);
+    )?;
+    pair(out, b"an empty row", &[], 0, 0)
 }
 
 // How many literals a wide clause has, and how many entries with its 0.
@@ -149,19 +188,20 @@ fn start_of(order: u8) -> usize {
 }
 
 // Compares the first clause with the one that each byte stands for.
-fn compare_wide(codes: &[u32], orders: &[u8]) {
+fn compare_wide<W: Write>(out: &mut W, codes: &[u32], orders: &[u8]) -> io::Result<()> {
     let mut i = 0;
     while i < orders.len() {
         if is_same_set(codes, 0, start_of(orders[i])) {
-            show(b"=");
+            show(out, b"=")?;
         } else {
-            show(b"/");
+            show(out, b"/")?;
         }
         i += 1;
     }
+    Ok(())
 }
 
-fn wide_cases(orders: &[u8]) {
+fn wide_cases<W: Write>(out: &mut W, orders: &[u8]) -> io::Result<()> {
     let mut row = [0u32; 5 * ENTRIES];
     put_clause(&mut row, 0, 0, 1);
     put_clause(&mut row, SAME_ORDER, 0, 1);
@@ -169,15 +209,16 @@ fn wide_cases(orders: &[u8]) {
     put_clause(&mut row, TURNED_ROUND_BUT_ONE, WIDTH - 1, WIDTH - 1);
     row[TURNED_ROUND_BUT_ONE] = 1;
     put_clause(&mut row, MIXED, 0, 4999);
-    show(b"clauses of 8,000 literals: ");
-    compare_wide(&row, orders);
-    show(b"\n");
+    show(out, b"clauses of 8,000 literals: ")?;
+    compare_wide(out, &row, orders)?;
+    show(out, b"\n")
 }
 
-fn main() {
-    literal_cases();
-    place_cases();
+fn main(rt: HostRuntime) -> io::Result<()> {
+    let mut out = rt.stdout();
+    literal_cases(&mut out)?;
+    place_cases(&mut out)?;
     let mut orders = [0u8; 4096];
-    let n = io::read_full(STDIN_FILENO, &mut orders);
-    wide_cases(&orders[..n]);
+    let n = read_full(&mut rt.stdin(), &mut orders)?;
+    wide_cases(&mut out, &orders[..n])
 }
