@@ -37,8 +37,8 @@ fn hand_list(
     entries: &mut usize,
     place: &mut usize,
 ) -> u32
-    ensures { record { number = result; place = place.new; values = record { nets = nets.exit.now; clauses = clauses.new; entries = entries.new } }
-        ≡ read_call list (record { nets = nets.entry.now; clauses = clauses.old; entries = entries.old }) }
+    ensures { record { number = result; place = place.new; values = record { nets = nets.new; clauses = clauses.new; entries = entries.new } }
+        ≡ read_call list (record { nets = nets.old; clauses = clauses.old; entries = entries.old }) }
 {
     match list {
         Reading::Refused(r) => {
@@ -82,8 +82,8 @@ pub extern "C" fn cuddremai_read(
     entries: &mut usize,
     place: &mut usize,
 ) -> u32
-    ensures answer { record { number = result; place = place.new; values = record { nets = nets.exit.now; clauses = clauses.new; entries = entries.new } }
-        ≡ read_call (reading text.now row.old).result (record { nets = nets.entry.now; clauses = clauses.old; entries = entries.old }) }
+    ensures answer { record { number = result; place = place.new; values = record { nets = nets.new; clauses = clauses.new; entries = entries.new } }
+        ≡ read_call (reading text.now row.old).result (record { nets = nets.old; clauses = clauses.old; entries = entries.old }) }
     ensures row { row.new ≡ (reading text.now row.old).row }
 {
     let list = read(text, row);
@@ -100,8 +100,8 @@ pub extern "C" fn cuddremai_read_aiger(
     entries: &mut usize,
     place: &mut usize,
 ) -> u32
-    ensures answer { record { number = result; place = place.new; values = record { nets = nets.exit.now; clauses = clauses.new; entries = entries.new } }
-        ≡ read_call (Aiger.reading text.now row.old).result (record { nets = nets.entry.now; clauses = clauses.old; entries = entries.old }) }
+    ensures answer { record { number = result; place = place.new; values = record { nets = nets.new; clauses = clauses.new; entries = entries.new } }
+        ≡ read_call (Aiger.reading text.now row.old).result (record { nets = nets.old; clauses = clauses.old; entries = entries.old }) }
     ensures row { row.new ≡ (Aiger.reading text.now row.old).row }
 {
     let list = aiger::reading::read(text, row);

@@ -2,6 +2,10 @@
 
 #![tactic(auto)]
 
+ghost use Rattle.std.specs.Prelude.{OnOk, IfSome, take};
+ghost use Rattle.std.specs.Io.KnownBytes.{Appends};
+ghost use Rattle.relist.specs.Relisting.{list_printed, relisted};
+
 use clauses::printing::{Printing, print};
 use clauses::reading::{Reading, read};
 use std::io;
@@ -10,7 +14,9 @@ use support::input::read_full;
 use support::shown::print_refusal;
 
 // Prints a list back, by way of a buffer that holds any text that printing accepts.
-fn print_list<W: Write>(out: &mut W, v: u32, c: u32, row: &[i32]) -> io::Result<()> {
+fn print_list<W: Write>(out: &mut W, v: u32, c: u32, row: &[i32]) -> io::Result<()>
+    ensures { OnOk result (Appends (W.contents out.old) (W.contents out.new) (list_printed v c row.now)) }
+{
     let mut text = [0u8; 65536];
     match print(v, c, row, &mut text) {
         Printing::Refused(r) => print_refusal(out, r),
@@ -19,7 +25,9 @@ fn print_list<W: Write>(out: &mut W, v: u32, c: u32, row: &[i32]) -> io::Result<
 }
 
 // Reads a text, by way of a row that has room for the numbers of any text that is not too long.
-fn relist<W: Write>(out: &mut W, text: &[u8]) -> io::Result<()> {
+fn relist<W: Write>(out: &mut W, text: &[u8]) -> io::Result<()>
+    ensures { OnOk result (Appends (W.contents out.old) (W.contents out.new) (relisted text.now)) }
+{
     let mut row = [0i32; 32763];
     match read(text, &mut row) {
         Reading::Refused(r) => print_refusal(out, r),
@@ -31,7 +39,9 @@ fn relist<W: Write>(out: &mut W, text: &[u8]) -> io::Result<()> {
 }
 
 // One byte more than a text may have is held, so that a longer one is turned away and not cut short.
-fn run<R: Read, W: Write>(from: &mut R, out: &mut W) -> io::Result<()> {
+fn run<R: Read, W: Write>(from: &mut R, out: &mut W) -> io::Result<()>
+    ensures { OnOk result (IfSome (R.remaining from.old) (λ xs. Appends (W.contents out.old) (W.contents out.new) (relisted (take 65537 xs)))) }
+{
     let mut text = [0u8; 65537];
     let n = read_full(from, &mut text)?;
     relist(out, &text[..n])
