@@ -29,19 +29,25 @@ crates() {
     done
 }
 
-# Prints a source that is newer than the last build, if there is one, and NUL.
+# Prints a source that is newer than the last build, if there is one, and NUL. What rt makes is in the folders `out`. For a subshell.
 newer_source() {
-    local crate sources=("$root/crates.txt")
+    local crate entry sources=("$root/crates.txt")
+    shopt -s nullglob
     for crate in $(crates); do
-        sources+=("$root/crates/$crate")
+        for entry in "$root/crates/$crate"/*; do
+            [ "${entry##*/}" = out ] || sources+=("$entry")
+        done
     done
     find "${sources[@]}" -newer "$stamp" -print0 -quit
 }
 
+# Where rt puts a program.
+built() { printf '%s\n' "$root/crates/$1/out/$1"; }
+
 has_programs() {
     local program
     for program in "${programs[@]}"; do
-        [ -x "$root/target/bin/$program" ] || return 1
+        [ -x "$(built "$program")" ] || return 1
     done
 }
 
@@ -71,10 +77,11 @@ build() {
 
 # Has rt prove and build the programs, in a process group of its own so that all of it can be ended, and shows how far it is.
 prove() {
-    local said
+    local said needed
     say 'proving and building the programs; the first time this takes some minutes'
     touch "$stamp.new"
-    exec {said}< <(cd "$root" && exec setsid rt check "${programs[@]}" 2>&1 </dev/null)
+    mapfile -t needed < <(crates)
+    exec {said}< <(exec setsid "$root/scripts/prove" "${needed[@]}" 2>&1 </dev/null)
     prover=$!
     follow "$said" >"$log"
     exec {said}<&-
@@ -93,39 +100,35 @@ end_prover() {
     [ ! -t 2 ] || printf '\n' >&2
 }
 
-# Copies what rt says on a descriptor to standard output, and says on standard error which crate is at hand.
+# Copies what scripts/prove says on a descriptor to standard output, and says on standard error which crate is at hand.
 follow() {
-    local needed line text='' proved=' ' shown='' began=$SECONDS status
-    mapfile -t needed < <(crates)
+    local line text='' at='' shown='' began=$SECONDS status
     while true; do
         IFS= read -r -t 0.5 -u "$1" line
         status=$?
         text+=$line
         if [ $status -gt 128 ]; then
-            # Nothing was said for half a second, so a crate is at hand.
+            # Nothing was said for half a second, so a crate is being proved.
             progress
             continue
         fi
         [ $status -eq 0 ] || break
         printf '%s\n' "$text"
-        [[ ! $text =~ ^'rt: '([A-Za-z0-9_]+)' proved (' ]] || proved+="${BASH_REMATCH[1]} "
+        [[ ! $text =~ ^'prove: '([A-Za-z0-9_]+)$ ]] || at=${BASH_REMATCH[1]}
         text=''
     done
     printf '%s' "$text"
     [ ! -t 2 ] || printf '\r\033[K' >&2
 }
 
-# Says the first crate that is not proved yet: on a terminal each time, in one line, and elsewhere when it is another one.
+# Says the crate that is at hand: on a terminal each time, in one line, and elsewhere when it is another one.
 progress() {
-    local crate at='' number=1 text
-    for crate in "${needed[@]}"; do
-        if [[ $proved == *" $crate "* ]]; then
-            number=$((number + 1))
-        else
-            at=${at:-$crate}
-        fi
-    done
+    local crate number=0 text
     [ -n "$at" ] || return
+    for crate in "${needed[@]}"; do
+        number=$((number + 1))
+        [ "$crate" != "$at" ] || break
+    done
     text="$me: proving $at ($number of ${#needed[@]})"
     if [ -t 2 ]; then
         printf '\r\033[K%s, %d s' "$text" $((SECONDS - began)) >&2
@@ -142,7 +145,7 @@ run() {
     first=$(set -o pipefail && head -c 4 | od -An -v -tx1) || trouble "the input cannot be read"
     # The first word is `aag` or, of a binary file, `aig`: a blank or the text's end follows.
     [[ ! $first =~ ^' 61 6'[19]' 67'(' 20'|' 09'|' 0a'|' 0d')?$ ]] || program=cuddremai_aiger
-    printed=$(set -o pipefail && input_from "$first" | "$root/target/bin/$program" && printf .)
+    printed=$(set -o pipefail && input_from "$first" | "$(built "$program")" && printf .)
     printed=${printed%.}
     judge "$printed"
     kind=$?
