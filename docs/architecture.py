@@ -14,13 +14,13 @@ LEGEND = 30
 
 
 def read_crates():
-    """The crates in the file's order, each with the crates of this repository on its line."""
+    """The crates in the file's order, each with the crates of this repository on its line. A word behind the name says of what kind it is."""
     crates = {}
     with open(os.path.join(ROOT, 'crates.txt')) as file:
         for line in file:
             name, colon, uses = line.split('#')[0].partition(':')
             if colon:
-                crates[name.strip()] = uses.split()
+                crates[name.split()[0]] = uses.split()
     return {name: [used for used in uses if used in crates] for name, uses in crates.items()}
 
 

@@ -1,4 +1,4 @@
-/* Cuddremai for C: link target/staticlib/libcuddremai_c.a, which `rt staticlib cuddremai_c` writes (x86-64 Linux).
+/* Cuddremai for C: link crates/cuddremai_c/out/libcuddremai_c.a, which `rt lib` in crates/cuddremai_c writes (x86-64 Linux).
  *
  * Every function takes every input and always ends. It answers 0, or the number of a refusal (docs/REFUSALS.md) and through
  * `place` its place; `place` is 0 on acceptance. A refusal leaves everything else that was lent as it was, and what is lent

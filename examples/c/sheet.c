@@ -1,8 +1,8 @@
 /* Reads DIMACS or AIGER text from standard input and prints its sheet, step by step: read, close and write.
  *
- *     rt staticlib cuddremai_c
- *     cc -Iinclude examples/c/sheet.c target/staticlib/libcuddremai_c.a -o target/sheet
- *     target/sheet < examples/two_ands.cnf
+ *     (cd crates/cuddremai_c && rt lib)
+ *     cc -Iinclude examples/c/sheet.c crates/cuddremai_c/out/libcuddremai_c.a -o /tmp/sheet
+ *     /tmp/sheet < examples/two_ands.cnf
  */
 
 #include <cuddremai.h>

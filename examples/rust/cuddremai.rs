@@ -1,4 +1,4 @@
-//! Cuddremai for Rust: safe functions over slices. Link `libcuddremai_c.a`, which `rt staticlib cuddremai_c` writes (x86-64
+//! Cuddremai for Rust: safe functions over slices. Link `libcuddremai_c.a`, which `rt lib` in crates/cuddremai_c writes (x86-64
 //! Linux). Every function takes every input and always ends; a refusal leaves everything lent as it was.
 
 mod c {

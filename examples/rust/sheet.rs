@@ -1,8 +1,8 @@
 //! Reads DIMACS or AIGER text from standard input and prints its sheet.
 //!
-//!     rt staticlib cuddremai_c
-//!     rustc -O examples/rust/sheet.rs -C link-arg=target/staticlib/libcuddremai_c.a -o target/sheet
-//!     target/sheet < examples/two_ands.cnf
+//!     (cd crates/cuddremai_c && rt lib)
+//!     rustc -O examples/rust/sheet.rs -C link-arg=crates/cuddremai_c/out/libcuddremai_c.a -o /tmp/sheet
+//!     /tmp/sheet < examples/two_ands.cnf
 
 #[allow(dead_code)]
 mod cuddremai;
