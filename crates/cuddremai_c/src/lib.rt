@@ -1,6 +1,8 @@
 // The entry points for C and Rust. Each answers 0, or a refusal's number and through `place` its place; a refusal leaves all else that
 // was lent as it was. A slice is a pointer and a length in C.
 
+#![tactic(auto)]
+
 ghost use Rattle.std.specs.Prelude.{◌≡◌};
 ghost use Rattle.clauses.specs.Reading.{reading};
 ghost use Rattle.aiger.specs.Reading as Aiger;
