@@ -1,4 +1,4 @@
-use Rattle.std.proofs.Common.{◌-◌, ◌≤◌}
+use Rattle.std.proofs.Common.{◌-◌}
 use Rattle.closing_cases.proofs.show_first.Given as goal
 
 abbrev pub decreases-loop-i : goal.decreases-loop-i
