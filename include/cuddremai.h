@@ -7,8 +7,8 @@
  * The caller owes what C cannot say: no pointer is NULL, also where its length is 0; each points to as many elements as its
  * length says, aligned; and nothing that a function may write overlaps anything else that is lent to the same call.
  *
- * No function keeps state, so calls in several threads need no lock. Closing and the sheet need 1.5 MB of stack, and from an AIGER text
- * to its sheet it is 1.75 MB: give a thread 2 MB. */
+ * No function keeps state, so calls in several threads need no lock. Closing and the sheet need 1.6 MB of stack, from a DIMACS text to
+ * its sheet it is 1.75 MB and from an AIGER text 2 MB: give a thread 2.5 MB. */
 
 #ifndef CUDDREMAI_H
 #define CUDDREMAI_H
