@@ -1,8 +1,8 @@
 /* Reads DIMACS or AIGER text from standard input and prints its sheet, step by step: read, close and write.
  *
  *     (cd crates/cuddremai_c && rt lib)
- *     cc -Iinclude examples/c/sheet.c crates/cuddremai_c/out/libcuddremai_c.a -o /tmp/sheet
- *     /tmp/sheet < examples/two_ands.cnf
+ *     cc -Iinclude examples/c/sheet.c crates/cuddremai_c/out/libcuddremai_c.a -o crates/cuddremai_c/out/sheet
+ *     crates/cuddremai_c/out/sheet < examples/two_ands.cnf
  */
 
 #include <cuddremai.h>

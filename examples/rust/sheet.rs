@@ -1,8 +1,8 @@
 //! Reads DIMACS or AIGER text from standard input and prints its sheet.
 //!
 //!     (cd crates/cuddremai_c && rt lib)
-//!     rustc -O examples/rust/sheet.rs -C link-arg=crates/cuddremai_c/out/libcuddremai_c.a -o /tmp/sheet
-//!     /tmp/sheet < examples/two_ands.cnf
+//!     rustc -O examples/rust/sheet.rs -C link-arg=crates/cuddremai_c/out/libcuddremai_c.a -o crates/cuddremai_c/out/sheet
+//!     crates/cuddremai_c/out/sheet < examples/two_ands.cnf
 
 #[allow(dead_code)]
 mod cuddremai;

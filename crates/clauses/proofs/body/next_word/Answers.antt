@@ -4,7 +4,6 @@ use Prim.Native.Nat.{◌+◌, ◌<◌, ◌≤◌, ℕ}
 use Rattle.clauses.proofs.Runs.{run_goes_on, run_within}
 use Rattle.clauses.specs.Bytes.{front, letter_c}
 use Rattle.clauses.specs.Scanning.{is_in, starts_line, words_from}
-use borrow.Author.Tests.{not-false, not-true}
 use lib.ListN.{drop, get_or, length}
 use mathlib.Core.Bool.{true}
 use mathlib.Core.List.{List}

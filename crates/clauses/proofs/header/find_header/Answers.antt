@@ -7,7 +7,6 @@ use Rattle.clauses.proofs.Runs.{front_length}
 use Rattle.clauses.proofs.Splitting.{following, lacks}
 use Rattle.clauses.specs.Bytes.{front}
 use Rattle.clauses.specs.Reading.{header_line, is_passed}
-use borrow.Author.Tests.{not-false, not-true}
 use lib.ListN.{length-drop, take, drop, length}
 use mathlib.Core.Path.{ap, sym, ◌∙◌, ◌≡◌, refl}
 use native.Mathlib.Omega.{arith}

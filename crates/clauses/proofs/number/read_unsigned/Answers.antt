@@ -1,7 +1,6 @@
 use Rattle.clauses.specs.Scanning.{is_in_word}
 use Rattle.clauses.proofs.Runs.{run_none, run_stops}
 use Rattle.clauses.proofs.Words.{unsigned_malformed, word_breaks, word_stops}
-use borrow.Author.Tests.{not-true}
 use mathlib.Core.Path.{◌∙◌, sym}
 use Rattle.clauses.proofs.number.read_unsigned.Goals as goal
 

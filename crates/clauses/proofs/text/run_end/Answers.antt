@@ -1,6 +1,5 @@
 use Rattle.clauses.proofs.Runs.{run_goes_on, run_none, run_stops}
 use Rattle.clauses.specs.Scanning.{is_in}
-use borrow.Author.Tests.{not-false, not-true}
 use lib.ListN.{length}
 use mathlib.Core.Path.{◌∙◌, ap, sym}
 use native.Mathlib.Omega.{arith}

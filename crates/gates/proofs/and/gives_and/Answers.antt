@@ -2,7 +2,6 @@ use mathlib.Core.Path.{refl, sym, ◌∙◌}
 use mathlib.Core.Bool.{◌||◌}
 use mathlib.Core.List.{[], ◌∷◌}
 use lib.Dec.{eqb}
-use borrow.Author.Tests.{not-false, not-true}
 use Rattle.clauses.specs.Code.{negate}
 use Rattle.clauses.specs.Clause.{clauses_in}
 use Rattle.clauses.specs.Listing.{present}

@@ -1,6 +1,5 @@
 use mathlib.Core.Path.{sym, ◌∙◌}
 use native.Mathlib.Omega.{arith}
-use borrow.Author.Tests.{not-true, not-false}
 use Rattle.gates.proofs.ClauseKinds.{candidate_kind, three_kind, other_kind}
 use Rattle.gates.proofs.first.kind_of.Goals as goal
 

@@ -2,7 +2,6 @@ use mathlib.Core.Path.{◌≡◌, sym, ◌∙◌}
 use mathlib.Core.Bool.{true, ◌&&◌}
 use Prim.Native.Nat.{◌+◌}
 use native.Mathlib.Omega.{arith}
-use borrow.Author.Tests.{not-true, not-false}
 use Rattle.clauses.specs.Row.{Spans, start_of}
 use Rattle.clauses.proofs.Lists.{and_both}
 use Rattle.clauses.proofs.StartOf.{start_is}

@@ -1,5 +1,4 @@
 use mathlib.Core.Path.{sym, ◌∙◌}
-use borrow.Author.Tests.{not-true, not-false}
 use Rattle.gates.proofs.Masks.{masked_none, masked_first}
 use Rattle.gates.proofs.MateCounts.{no_clause, no_companion, one_of_clauses}
 use Rattle.gates.proofs.Queries.{three_once, masked_once}

@@ -1,5 +1,4 @@
 use mathlib.Core.Path.{sym, ◌∙◌}
-use borrow.Author.Tests.{not-true, not-false}
 use Rattle.gates.proofs.Walks.{same_no, same_other}
 use Rattle.gates.proofs.same.is_same_set.Goals as goal
 

@@ -4,7 +4,6 @@ use Prim.Native.Nat.{◌<◌}
 use native.Mathlib.Omega.{arith}
 use lib.Dec.{eqb}
 use lib.ListN.{length, get_or}
-use borrow.Author.Tests.{not-true, not-false}
 use Rattle.gates.proofs.LiteralPlaces.{goes_past, comes_to, past_inside}
 use Rattle.gates.proofs.same.place_of.Goals as goal
 

@@ -3,7 +3,6 @@ use mathlib.Core.Bool.{true, false}
 use Prim.Native.Nat.{◌+◌, ◌-◌, ◌<◌}
 use native.Mathlib.Omega.{arith}
 use lib.ListN.{length, get_or}
-use borrow.Author.Tests.{not-true, not-false}
 use Rattle.clauses.specs.Listing.{within, same_set}
 use Rattle.clauses.specs.Row.{clause_at}
 use Rattle.gates.specs.Index.{buckets}

@@ -1,7 +1,6 @@
 use mathlib.Core.Path.{◌≡◌, sym, ◌∙◌}
 use native.Mathlib.Omega.{arith}
 use borrow.Author.Count.{below_more}
-use borrow.Author.Tests.{not-false, not-true}
 use Rattle.clauses.specs.Clause.{clauses_in}
 use Rattle.gates.proofs.Masks.{masks_pass, mask_fails, mask_none}
 use Rattle.gates.proofs.xor.is_every_mask_present.Goals as goal

@@ -1,6 +1,5 @@
 use mathlib.Core.Path.{refl, sym, ◌∙◌}
 use mathlib.Core.Bool.{not, ◌||◌}
-use borrow.Author.Tests.{not-false, not-true}
 use Rattle.clauses.specs.Sign.{is_inverse}
 use Rattle.gates.specs.Mark.{is_lowest, is_upright}
 use Rattle.gates.proofs.Every.{every_end, every_on, every_no}
