@@ -1,90 +1,46 @@
 -- The AND lines, read one by one.
 -- Assumes nothing.
 use mathlib.Core.Path.{◌≡◌, refl, sym, ◌∙◌, ap}
-use mathlib.Core.Bool.{true, false, false≢true}
+use mathlib.Core.Bool.{true, false}
 use mathlib.Core.List.{List, [], ◌∷◌, ◌++◌, append_assoc, append-nil}
-use mathlib.Core.Option.{Option, none, some}
+use Rattle.std.specs.Prelude.{Some, None, Result, Ok, Err, is_ok}
 use Prim.Native.Nat.{ℕ, suc, ◌+◌, ◌-◌, ◌*◌, ◌≤◌, ◌<◌}
-use native.Mathlib.Numerals.{add-one}
 use native.Mathlib.Omega.{arith}
 use borrow.Table.Steps.{cases}
 use lib.IntN.{ℤ}
-use lib.ListN.{length, take, length-append}
-use lib.Seq.{sets, take-suc-set}
+use lib.ListN.{length, length-append}
 use Rattle.clauses.specs.Lists.{keep, each}
 use Rattle.clauses.specs.Tally.{start, tally_of}
+use Rattle.clauses.specs.declared.refusal.Refusal.{Refusal}
+use Rattle.clauses.specs.declared.refusal.Refusal.TheVariants.{AigerLine, AndOutput}
 use Rattle.clauses.specs.declared.tally.EntryTally.{EntryTally}
-use Rattle.clauses.proofs.Tallies.{tally_none, tally_zeros}
+use Rattle.clauses.proofs.Tallies.{tally_zeros}
 use Rattle.aiger.specs.declared.ands.And.{And}
-use Rattle.aiger.specs.declared.ands.AndLine.TheVariants as G
-use Rattle.aiger.specs.declared.ands.Scan.{Scan}
-use Rattle.aiger.specs.declared.ands.Scan.TheVariants as S
+use Rattle.aiger.specs.declared.ands.AndLine.{AndLine}
 use Rattle.aiger.specs.Circuit.{and_clauses, simplified, literal_row}
-use Rattle.aiger.specs.Line.{is_new, AndField, and_at, Lines, said, faulty, prepend, and_lines, bad_output}
-use Rattle.aiger.specs.Scanning.{as_and_line, made, and_entries, Room, Ready, Making, AndTaken, AndsResult, entries, set_at, faulty-at, or_set, ands_result, as_scan, AndsRead}
-use Rattle.aiger.specs.Tree.{Tree}
+use Rattle.aiger.specs.Line.{is_new, and_at, Lines, said, faulty, prepend, and_lines, bad_output}
+use Rattle.aiger.specs.declared.clause.MadeEntries.{MadeEntries}
+use Rattle.aiger.specs.Scanning.{made, and_entries, Put, Ready, AndTaken, or_set, ands_result, AndsRead}
 use Rattle.aiger.proofs.CircuitLines.{AndRead, and_read}
 use Rattle.aiger.proofs.Entries.{and_entries_cons, and_few}
-use Rattle.aiger.proofs.Stores.{stored_all}
+use Rattle.aiger.proofs.Stores.{put_none, put_then, put_start}
 
--- what a function answers of an AND line tells what it is
+-- What a test of an answer tells
 
-pub and_none : (o : Option AndField) → as_and_line o ≡ G.Malformed → o ≡ none
-and_none none e = refl
-and_none (some g) e = let z : ◌≡◌ {A = ℕ} 0 1 = cc in absurd (omega arith)
+pub ok_is : (x : Result (Unit {0}) Refusal) → is_ok x ≡ true → x ≡ Ok tt
+ok_is (Ok u) e = refl
+ok_is (Err r) e = absurd cc
 
-pub and_some : (o : Option AndField) (g : And) (q : ℕ) → as_and_line o ≡ G.Gate g q → o ≡ some (record { gate = g; next = q })
-and_some none g q e = let z : ◌≡◌ {A = ℕ} 0 1 = cc in absurd (omega arith)
-and_some (some f) g q e =
-    let v : f.gate ≡ g = cc in
-    let p : f.next ≡ q = cc in
-    λ i. some (record { gate = v i; next = p i })
-
--- What taking an AND line leaves
-
-module _ (g : And) (m n : ℕ) (scan : Scan) (keys : List ℕ) (kept : List ℤ) (scan' : Scan) (keys' links' : List ℕ) (kept' : List ℤ) where
-  abbrev Taken : Type 0
-  Taken = AndTaken g m n scan keys kept scan' keys' links' kept'
-
-  pub taken_faulty : (p : ℕ) → scan ≡ S.Faulty p → Taken
-  taken_faulty p q =
-      record {
-        new = λ t e i. let z : ◌≡◌ {A = ℕ} 0 1 = cc in absurd (omega arith);
-        not_new = λ t e i. let z : ◌≡◌ {A = ℕ} 0 1 = cc in absurd (omega arith);
-        set_before = λ r e. let z : ◌≡◌ {A = ℕ} 0 1 = cc in absurd (omega arith);
-      }
-
-  pub taken_set : (p : ℕ) → scan ≡ S.OutputSet p → scan' ≡ S.OutputSet p → Taken
-  taken_set p q h =
-      record {
-        new = λ t e i. let z : ◌≡◌ {A = ℕ} 0 1 = cc in absurd (omega arith);
-        not_new = λ t e i. let z : ◌≡◌ {A = ℕ} 0 1 = cc in absurd (omega arith);
-        set_before = λ r e. h ∙ sym q ∙ e;
-      }
-
-  module _ (t : EntryTally) (q : scan ≡ S.Made t) where
-    pub taken_not_new : is_new (take n keys) g.output ≡ false → scan' ≡ S.OutputSet g.place → Taken
-    taken_not_new old h =
-        record {
-          new = λ u e i. absurd (false≢true (sym old ∙ i));
-          not_new = λ u e i. h;
-          set_before = λ r e. let z : ◌≡◌ {A = ℕ} 0 1 = cc in absurd (omega arith);
-        }
-
-    pub taken_new : is_new (take n keys) g.output ≡ true → Making g m n t keys kept scan' keys' links' kept' → Taken
-    taken_new new k =
-        record {
-          new = λ u e i. let same : t ≡ u = cc in rw same at k;
-          not_new = λ u e i. absurd (false≢true (sym i ∙ new));
-          set_before = λ r e. let z : ◌≡◌ {A = ℕ} 0 1 = cc in absurd (omega arith);
-        }
+pub err_is : (x : Result (Unit {0}) Refusal) → is_ok x ≡ false → (r : Refusal) × (x ≡ Err r)
+err_is (Ok u) e = absurd cc
+err_is (Err r) e = (r, refl)
 
 -- What the lines that are left come to
 
 -- .. behind an output that is not new: a faulty line goes first
-unfoldable after_set : ℕ → Lines (List And) → AndsResult
-after_set p (faulty q) = faulty-at q
-after_set p (said gs q) = set_at p
+unfoldable after_set : ℕ → Lines (List And) → Result (List ℤ) Refusal
+after_set p (faulty q) = Err (AigerLine q)
+after_set p (said gs q) = Err (AndOutput p)
 
 set_prepend : (p : ℕ) (g : And) (ls : Lines (List And)) → after_set p (prepend g ls) ≡ after_set p ls
 unfolding after_set prepend
@@ -92,7 +48,7 @@ set_prepend p g (faulty q) = refl
 set_prepend p g (said gs q) = refl
 
 module _ (before : List ℕ) (g : And) (gs : List And) where
-  bad_first : is_new before g.output ≡ false → bad_output before (g ∷ gs) ≡ some g.place
+  bad_first : is_new before g.output ≡ false → bad_output before (g ∷ gs) ≡ Some g.place
   unfolding bad_output
   bad_first old = rw old
 
@@ -130,157 +86,146 @@ entries_none : and_entries [] ≡ []
 unfolding made literal_row simplified each keep
 entries_none = refl
 
-module _ (m : ℕ) (text : List ℕ) (count from inputs : ℕ) (keys₀ : List ℕ) (kept₀ : List ℤ) where
-  abbrev Whole : AndsResult
-  Whole = ands_result (take inputs keys₀) [] (and_lines m text count from)
+module _ (m : ℕ) (text : List ℕ) (count from : ℕ) (inputs : List ℕ) (none-made : MadeEntries) where
+  abbrev Whole : Result (List ℤ) Refusal
+  Whole = ands_result inputs [] (and_lines m text count from)
 
   -- as long as all outputs were new
-  pub record MadeAt (t : EntryTally) (keys links : List ℕ) (kept : List ℤ) (at i : ℕ) : Type 0 where
+  pub record MadeAt (listed : List ℕ) (e : MadeEntries) (at i : ℕ) : Type 0 where
     es : List ℤ
-    tally : t ≡ tally_of m es
+    put : Put none-made es e
     few : length es ≤ 10 * i
-    content : kept ≡ sets kept₀ 0 es
-    pub tree : Tree (inputs + i) keys links
-    rest : Whole ≡ ands_result (take (inputs + i) keys) es (and_lines m text (count - i) at)
+    pub far : 2 * length listed ≤ at
+    rest : Whole ≡ ands_result listed es (and_lines m text (count - i) at)
+
+  -- .. and once one was not
+  pub record StoppedAt (r : Refusal) (at i : ℕ) : Type 0 where
+    place : ℕ
+    refusal_is : r ≡ AndOutput place
+    rest : Whole ≡ after_set place (and_lines m text (count - i) at)
 
   -- i AND lines are read, and those from place at on decide
-  pub record Scanned (scan : Scan) (keys links : List ℕ) (kept : List ℤ) (at i : ℕ) : Type 0 where
-    low : i ≤ count
-    pub far : 2 * (inputs + i) ≤ at
+  pub record Scanned (outputs : Result (Unit {0}) Refusal) (listed : List ℕ) (e : MadeEntries) (at i : ℕ) : Type 0 where
     pub within : at ≤ length text
-    not_faulty : (p : ℕ) → scan ≡ S.Faulty p → ⊥
-    set_before : (p : ℕ) → scan ≡ S.OutputSet p → Whole ≡ after_set p (and_lines m text (count - i) at)
-    making : (t : EntryTally) → scan ≡ S.Made t → MadeAt t keys links kept at i
+    pub making : outputs ≡ Ok tt → MadeAt listed e at i
+    stopped : (r : Refusal) → outputs ≡ Err r → StoppedAt r at i
 
-  pub scan_starts : (links : List ℕ) → Tree inputs keys₀ links → 2 * inputs ≤ from → from ≤ length text → Scanned (S.Made start) keys₀ links kept₀ from 0
-  scan_starts links t h k =
+  pub scan_starts : 2 * length inputs ≤ from → from ≤ length text → Scanned (Ok tt) inputs none-made from 0
+  scan_starts h k =
       let z : count - 0 ≡ count = omega arith in
-      let n : inputs + 0 ≡ inputs = omega arith in
       record {
-        low = omega arith;
-        far = omega arith;
         within = k;
-        not_faulty = λ p e. let q : ◌≡◌ {A = ℕ} 0 1 = cc in omega arith;
-        set_before = λ p e. let q : ◌≡◌ {A = ℕ} 0 1 = cc in absurd (omega arith);
-        making = λ u e. let same : start ≡ u = cc in
-            record { es = []; tally = sym same ∙ tally_none m []; few = omega arith; content = refl; tree = rw n t; rest = rw (n, z) };
+        making = λ e. record { es = []; put = put_none none-made; few = omega arith; far = h; rest = rw z };
+        stopped = λ r e. absurd cc;
       }
 
-  module _ (scan : Scan) (keys links : List ℕ) (kept : List ℤ) (at i : ℕ) (s : Scanned scan keys links kept at i) where
+  module _ (outputs : Result (Unit {0}) Refusal) (listed : List ℕ) (e : MadeEntries) (at i : ℕ) (s : Scanned outputs listed e at i) where
     abbrev left : Lines (List And)
     left = and_lines m text (count - i) at
 
-    pub scan_ends : count ≤ i → AndsRead m Whole kept₀ scan kept
-    unfolding as_scan after_set ands_result or_set and_lines bad_output
-    scan_ends h = go scan refl
+    pub scan_ends : count ≤ i → AndsRead Whole none-made outputs e
+    unfolding after_set ands_result or_set and_lines bad_output
+    scan_ends h = go outputs refl
       where
         none_left : and_lines m text (count - i) at ≡ said [] at
         none_left = let z : count - i ≡ 0 = omega arith in rw (z, and_lines)
 
-        go : (x : Scan) → scan ≡ x → AndsRead m Whole kept₀ scan kept
-        go (S.Faulty p) e = absurd (s.not_faulty p e)
-        go (S.OutputSet p) e =
-            let w : Whole ≡ set_at p = s.set_before p e ∙ rw none_left in
-            record { scan_is = rw w e; content = λ es q. let z : ◌≡◌ {A = ℕ} 0 1 = cc in absurd (omega arith) }
-        go (S.Made t) e =
-            let k = s.making t e in
-            let w : Whole ≡ entries k.es = k.rest ∙ rw (none_left, entries_none, append-nil) in
-            record {
-              scan_is = rw w (e ∙ ap S.Made k.tally);
-              content = λ es q. let same : k.es ≡ es = cc in rw same at k.content;
-            }
+        go : (x : Result (Unit {0}) Refusal) → outputs ≡ x → AndsRead Whole none-made outputs e
+        go (Err r) q =
+            let k = s.stopped r q in
+            let w : Whole ≡ Err (AndOutput k.place) = k.rest ∙ rw none_left in
+            rw (w, ← k.refusal_is) q
+        go (Ok u) q =
+            let k = s.making q in
+            let w : Whole ≡ Ok k.es = k.rest ∙ rw (none_left, entries_none, append-nil) in
+            rw w (q, k.put)
 
     module _ (h : i < count) where
       one_less : count - i ≡ suc (count - (i + 1))
       one_less = omega arith
 
-      pub scan_breaks : and_at m text at ≡ none → AndsRead m Whole kept₀ (S.Faulty at) kept
-      unfolding as_scan after_set ands_result and_lines
-      scan_breaks n = record { scan_is = rw broken; content = λ es q. let z : faulty-at at ≡ entries es = sym broken ∙ q in let y : ◌≡◌ {A = ℕ} 0 1 = cc in absurd (omega arith) }
+      pub scan_breaks : and_at m text at ≡ None → AndsRead Whole none-made (Err (AigerLine at)) e
+      unfolding after_set ands_result and_lines
+      scan_breaks n = rw (go outputs refl) refl
         where
           here : and_lines m text (count - i) at ≡ faulty at
           here = rw (one_less, and_lines, n)
 
-          go : (x : Scan) → scan ≡ x → Whole ≡ faulty-at at
-          go (S.Faulty p) e = absurd (s.not_faulty p e)
-          go (S.OutputSet p) e = s.set_before p e ∙ rw here
-          go (S.Made t) e = (s.making t e).rest ∙ rw here
+          go : (x : Result (Unit {0}) Refusal) → outputs ≡ x → Whole ≡ Err (AigerLine at)
+          go (Err r) q = (s.stopped r q).rest ∙ rw here
+          go (Ok u) q = (s.making q).rest ∙ rw here
 
-          broken : Whole ≡ faulty-at at
-          broken = go scan refl
-
-      module _ (g : And) (next : ℕ) (e : and_at m text at ≡ some (record { gate = g; next = next })) where
-        read : AndRead m text at (record { gate = g; next = next })
-        read = and_read m text at (record { gate = g; next = next }) e
-
-        line : and_lines m text (count - i) at ≡ prepend g (and_lines m text (count - (i + 1)) next)
-        unfolding and_lines
-        line = rw (one_less, and_lines, e)
-
-        -- what taking the line asks
-        pub scan_ready : count < 4294967296 → length text ≤ 2 * length keys → Ready g (inputs + i) scan keys links
-        scan_ready k j =
-            record {
-              output_small = read.output_small;
-              left_small = read.left_small;
-              right_small = read.right_small;
-              making = λ t q. let u = s.making t q in (room t u, u.tree, omega (arith, read.further, read.within, s.far));
-            }
-          where
-            room : (t : EntryTally) → MadeAt t keys links kept at i → Room t 12
-            room t u =
-                let size : t.entries ≡ length u.es = ap (λ (w : EntryTally). w.entries) u.tally ∙ tally_length m u.es in
-                record { zeros_few = rw u.tally (tally_zeros m u.es); entries_few = omega (arith, size, u.few) }
+      module _ (g : AndLine) (n : and_at m text at ≡ Some g) where
+        read : AndRead m text at g
+        read = and_read m text at g n
 
         abbrev Next : Lines (List And)
-        Next = and_lines m text (count - (i + 1)) next
+        Next = and_lines m text (count - (i + 1)) g.next
 
-        -- the next line
-        pub scan_steps : (scan' : Scan) (keys' links' : List ℕ) (kept' : List ℤ) → length text ≤ 2 * length keys
-            → AndTaken g m (inputs + i) scan keys kept scan' keys' links' kept' → Scanned scan' keys' links' kept' next (i + 1)
-        scan_steps scan' keys' links' kept' j a = go scan refl
-          where
-            -- an output that is not new was met, now or before
-            set_next : (p : ℕ) → scan' ≡ S.OutputSet p → Whole ≡ after_set p Next → Scanned scan' keys' links' kept' next (i + 1)
-            set_next p q w =
-                record {
-                  low = omega arith;
-                  far = omega (arith, s.far, read.further);
-                  within = read.within;
-                  not_faulty = λ r d. let z : ◌≡◌ {A = ℕ} 0 1 = cc in omega arith;
-                  set_before = λ r d. let same : p ≡ r = cc in rw same at w;
-                  making = λ t d. let z : ◌≡◌ {A = ℕ} 0 1 = cc in absurd (omega arith);
-                }
+        line : and_lines m text (count - i) at ≡ prepend g.gate Next
+        unfolding and_lines
+        line = rw (one_less, and_lines, n)
 
-            made_next : (t : EntryTally) → scan ≡ S.Made t → MadeAt t keys links kept at i → is_new (take (inputs + i) keys) g.output ≡ true
-                → Making g m (inputs + i) t keys kept scan' keys' links' kept' → Scanned scan' keys' links' kept' next (i + 1)
-            made_next t q u new k =
-                let all = stored_all m kept₀ u.es u.content (rw u.tally at k.stored) in
-                let n : inputs + i + 1 ≡ inputs + (i + 1) = omega arith in
-                let more : take (inputs + (i + 1)) keys' ≡ take (inputs + i) keys ++ (g.output ∷ []) = rw (← n, k.keys_are, add-one) (take-suc-set keys (inputs + i) g.output (omega (arith, read.further, read.within, s.far))) in
+        -- the next line, once an output was not new
+        pub scan_goes_on : is_ok outputs ≡ false → Scanned outputs listed e g.next (i + 1)
+        scan_goes_on b =
+            let r = (err_is outputs b).0 in
+            let q = (err_is outputs b).1 in
+            let k = s.stopped r q in
+            record {
+              within = read.within;
+              making = λ d. absurd cc;
+              stopped = λ v d. let same : r ≡ v = cc in
+                  record { place = k.place; refusal_is = sym same ∙ k.refusal_is; rest = k.rest ∙ rw line (set_prepend k.place g.gate Next) };
+            }
+
+        -- .. and as long as all were
+        module _ (b : is_ok outputs ≡ true) where
+          u : MadeAt listed e at i
+          u = s.making (ok_is outputs b)
+
+          -- what taking the line asks
+          pub scan_ready : count < 4294967296 → none-made.tally ≡ start → Ready g.gate e.tally
+          scan_ready k z =
+              let t = (put_start u.put z).0 in
+              let size : e.tally.entries ≡ length u.es = ap (λ (w : EntryTally). w.entries) t ∙ tally_length none-made.nets u.es in
+              record {
+                output_small = read.output_small;
+                left_small = read.left_small;
+                right_small = read.right_small;
+                room = record { zeros_few = rw t (tally_zeros none-made.nets u.es); entries_few = omega (arith, size, u.few) };
+              }
+
+          pub scan_room : 2 * length listed + 6 ≤ length text
+          scan_room = omega (arith, read.further, read.within, u.far)
+
+          module _ (outputs' : Result (Unit {0}) Refusal) (listed' : List ℕ) (e' : MadeEntries) (a : AndTaken g.gate listed e outputs' listed' e') where
+            made_next : is_new listed g.gate.output ≡ true → Scanned outputs' listed' e' g.next (i + 1)
+            made_next new =
+                let is = (a.new new).0 in
+                let k = (a.new new).1 in
                 record {
-                  low = omega arith;
-                  far = omega (arith, s.far, read.further);
                   within = read.within;
-                  not_faulty = λ r d. let e = k.scan_is in let z : ◌≡◌ {A = ℕ} 0 1 = cc in omega arith;
-                  set_before = λ r d. let e = k.scan_is in let z : ◌≡◌ {A = ℕ} 0 1 = cc in absurd (omega arith);
-                  making = λ v d. let e = k.scan_is in
-                      let same : k.tally ≡ v = cc in
+                  making = λ d.
                       record {
-                        es = u.es ++ made (and_clauses g);
-                        tally = sym same ∙ all.0;
-                        few = omega (arith, u.few, length-append u.es (made (and_clauses g)), and_few g);
-                        content = all.1;
-                        tree = rw (← n) k.tree;
-                        rest = u.rest ∙ rw line (result_new (take (inputs + i) keys) u.es g Next new ∙ rw more);
+                        es = u.es ++ made (and_clauses g.gate);
+                        put = put_then u.put k.put;
+                        few = omega (arith, u.few, length-append u.es (made (and_clauses g.gate)), and_few g.gate);
+                        far = rw k.listed_are (omega (arith, u.far, read.further, length-append listed (g.gate.output ∷ [])));
+                        rest = u.rest ∙ rw (line, k.listed_are) (result_new listed u.es g.gate Next new);
                       };
+                  stopped = λ r d. absurd cc;
                 }
 
-            go : (x : Scan) → scan ≡ x → Scanned scan' keys' links' kept' next (i + 1)
-            go (S.Faulty p) q = absurd (s.not_faulty p q)
-            go (S.OutputSet p) q = set_next p (a.set_before p q) (s.set_before p q ∙ rw line (set_prepend p g Next))
-            go (S.Made t) q =
-                let u = s.making t q in
-                cases (is_new (take (inputs + i) keys) g.output)
-                (λ new. made_next t q u new (a.new t q new))
-                (λ old. set_next g.place (a.not_new t q old) (u.rest ∙ rw line (result_not_new (take (inputs + i) keys) u.es g Next old)))
+            set_next : is_new listed g.gate.output ≡ false → Scanned outputs' listed' e' g.next (i + 1)
+            set_next old =
+                let is = a.not_new old in
+                record {
+                  within = read.within;
+                  making = λ d. absurd cc;
+                  stopped = λ r d. let same : AndOutput g.gate.place ≡ r = cc in
+                      record { place = g.gate.place; refusal_is = sym same; rest = u.rest ∙ rw line (result_not_new listed u.es g.gate Next old) };
+                }
+
+            pub scan_steps : Scanned outputs' listed' e' g.next (i + 1)
+            scan_steps = cases (is_new listed g.gate.output) made_next set_next

@@ -2,7 +2,7 @@
 -- Assumes nothing.
 use mathlib.Core.Path.{◌≡◌, refl, sym}
 use mathlib.Core.List.{List, [], ◌∷◌, Memᴰ}
-use mathlib.Core.Option.{Option, none, some}
+use Rattle.std.specs.Prelude.{Option, Some, None}
 use Prim.Native.Nat.{ℕ, zero, suc, ◌+◌, ◌*◌, ◌≤◌, ◌<◌}
 use native.Mathlib.Omega.{arith}
 use lib.ListN.{length}
@@ -10,13 +10,15 @@ use Rattle.clauses.specs.Bytes.{space, lf}
 use Rattle.aiger.specs.declared.ands.And.{And}
 use Rattle.aiger.specs.declared.header.Header.{Header}
 use Rattle.aiger.specs.Circuit.{Circuit}
-use Rattle.aiger.specs.Line.{Field, literal_at, AndField, and_at, Lines, said, faulty, input_lines, prepend, and_lines, circuit_from, output_lines, circuit_lines}
+use Rattle.aiger.specs.declared.line.Field.{Field}
+use Rattle.aiger.specs.declared.ands.AndLine.{AndLine}
+use Rattle.aiger.specs.Line.{literal_at, and_at, Lines, said, faulty, input_lines, prepend, and_lines, circuit_from, output_lines, circuit_lines}
 use Rattle.aiger.proofs.Entries.{AndWithin, LiteralsWithin}
-use Rattle.clauses.proofs.Headers.{then_elim}
+use Rattle.std.proofs.lemmas.Option.{option_and_then_some}
 use Rattle.aiger.proofs.Fields.{literal_read}
 
 -- an AND line that was read: its literals have at most nine digits and are at most 2M + 1, and a place further on in the text lies behind it
-pub record AndRead (m : ℕ) (text : List ℕ) (p : ℕ) (g : AndField) : Type 0 where
+pub record AndRead (m : ℕ) (text : List ℕ) (p : ℕ) (g : AndLine) : Type 0 where
   pub output_small : g.gate.output < 1000000000
   pub left_small : g.gate.left < 1000000000
   pub right_small : g.gate.right < 1000000000
@@ -26,17 +28,17 @@ pub record AndRead (m : ℕ) (text : List ℕ) (p : ℕ) (g : AndField) : Type 0
   pub placed : g.gate.place ≡ p
 
 module _ (m : ℕ) (text : List ℕ) where
-  module _ (p : ℕ) (g : AndField) where
+  module _ (p : ℕ) (g : AndLine) where
     -- the AND line of three literals
-    line_of : Field → Field → Field → AndField
+    line_of : Field → Field → Field → AndLine
     line_of l a b = record { gate = record { place = p; output = l.value; left = a.value; right = b.value }; next = b.next }
 
-    pub and_read : and_at m text p ≡ some g → AndRead m text p g
+    pub and_read : and_at m text p ≡ Some g → AndRead m text p g
     unfolding and_at line_of
     and_read e =
-        then_elim _ _ g e (λ l u v.
-        then_elim _ _ g v (λ a w x.
-        then_elim _ _ g x (λ b y z.
+        option_and_then_some _ (literal_at m space text p) g e (λ l u v.
+        option_and_then_some _ (literal_at m space text l.next) g v (λ a w x.
+        option_and_then_some _ (literal_at m lf text a.next) g x (λ b y z.
         let same : line_of l a b ≡ g = cc in
         let first = literal_read space text p m (omega arith) l u in
         let second = literal_read space text l.next m (omega arith) a w in
@@ -65,9 +67,9 @@ module _ (m : ℕ) (text : List ℕ) where
       Fewer : Type 0
       Fewer = (r : ℕ) (hs : List And) (s : ℕ) → and_lines m text n r ≡ said hs s → r ≤ length text → AndsListed n r hs
 
-      behind : Fewer → (g : AndField) → and_at m text p ≡ some g → (ls : Lines (List And)) → and_lines m text n g.next ≡ ls → prepend g.gate ls ≡ said gs q
+      behind : Fewer → (g : AndLine) → and_at m text p ≡ Some g → (ls : Lines (List And)) → and_lines m text n g.next ≡ ls → prepend g.gate ls ≡ said gs q
           → AndsListed (suc n) p gs
-      behind fewer g u (faulty r) v e = let z : ◌≡◌ {A = ℕ} 0 1 = cc in absurd (omega arith)
+      behind fewer g u (faulty r) v e = absurd cc
       behind fewer g u (said hs r) v e =
           let same : g.gate ∷ hs ≡ gs = cc in
           let a = and_read p g u in
@@ -75,10 +77,10 @@ module _ (m : ℕ) (text : List ℕ) where
           rw (← same)
           (omega (arith, s.0), omega (arith, a.further, s.1), λ f i. elim i [ Memᴰ.head k ↦ rw k a.literals | Memᴰ.tail k ↦ s.2 f k ])
 
-      first : Fewer → (o : Option AndField) → and_at m text p ≡ o → elim o [ none ↦ faulty p | some g ↦ prepend g.gate (and_lines m text n g.next) ] ≡ said gs q
+      first : Fewer → (o : Option AndLine) → and_at m text p ≡ o → elim o [ None ↦ faulty p | Some g ↦ prepend g.gate (and_lines m text n g.next) ] ≡ said gs q
           → AndsListed (suc n) p gs
-      first fewer none u e = let z : ◌≡◌ {A = ℕ} 0 1 = cc in absurd (omega arith)
-      first fewer (some g) u e = behind fewer g u (and_lines m text n g.next) refl e
+      first fewer None u e = absurd cc
+      first fewer (Some g) u e = behind fewer g u (and_lines m text n g.next) refl e
 
 -- a circuit whose lines were read: its literals are those of a circuit with M nets, it has A AND lines, and each has six bytes or more
 abbrev pub CircuitRead : Header → List ℕ → Circuit → Type 0
@@ -89,9 +91,9 @@ module _ (h : Header) (text : List ℕ) (k : Circuit) (q : ℕ) where
   unfolding circuit_lines output_lines circuit_from
   circuit_read = inputs (input_lines h.nets text h.inputs [] h.lines)
     where
-      ands : (is : List ℕ) (p : ℕ) (o : Field) → literal_at h.nets lf text p ≡ some o → (ls : Lines (List And)) → and_lines h.nets text h.ands o.next ≡ ls
+      ands : (is : List ℕ) (p : ℕ) (o : Field) → literal_at h.nets lf text p ≡ Some o → (ls : Lines (List And)) → and_lines h.nets text h.ands o.next ≡ ls
           → circuit_from h.nets is o.value ls ≡ said k q → CircuitRead h text k
-      ands is p o u (faulty r) v e = let z : ◌≡◌ {A = ℕ} 0 1 = cc in absurd (omega arith)
+      ands is p o u (faulty r) v e = absurd cc
       ands is p o u (said gs r) v e =
           let nets : h.nets ≡ k.nets = cc in
           let output : o.value ≡ k.output = cc in
@@ -101,10 +103,10 @@ module _ (h : Header) (text : List ℕ) (k : Circuit) (q : ℕ) where
           (record { output_within = omega (arith, f.1); ands_within = rw (← nets, ← gates) s.2 }, sym nets, rw (← gates) s.0, rw (← gates) (omega (arith, s.1)))
 
       output : (is : List ℕ) (p : ℕ) (o : Option Field) → literal_at h.nets lf text p ≡ o
-          → elim o [ none ↦ faulty p | some f ↦ circuit_from h.nets is f.value (and_lines h.nets text h.ands f.next) ] ≡ said k q → CircuitRead h text k
-      output is p none u e = let z : ◌≡◌ {A = ℕ} 0 1 = cc in absurd (omega arith)
-      output is p (some o) u e = ands is p o u (and_lines h.nets text h.ands o.next) refl e
+          → elim o [ None ↦ faulty p | Some f ↦ circuit_from h.nets is f.value (and_lines h.nets text h.ands f.next) ] ≡ said k q → CircuitRead h text k
+      output is p None u e = absurd cc
+      output is p (Some o) u e = ands is p o u (and_lines h.nets text h.ands o.next) refl e
 
       inputs : (ls : Lines (List ℕ)) → output_lines h text ls ≡ said k q → CircuitRead h text k
-      inputs (faulty r) e = let z : ◌≡◌ {A = ℕ} 0 1 = cc in absurd (omega arith)
+      inputs (faulty r) e = absurd cc
       inputs (said is p) e = output is p (literal_at h.nets lf text p) refl e

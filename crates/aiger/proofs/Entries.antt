@@ -7,24 +7,25 @@ use mathlib.Core.List.Memᴰ
 use mathlib.Core.List.{List, [], ◌∷◌, ◌++◌, map, map-append, append_assoc, append-nil, Memᴰ}
 use Prim.Native.Nat.{ℕ, zero, suc, ◌+◌, ◌*◌, ◌%◌, ◌≤◌}
 use native.Mathlib.Omega.{arith}
-use borrow.Author.Tests.{le-ltb, eq-eqb, ne_eqb, eqb-true}
+use borrow.Author.Tests.{le-ltb, eq-eqb, ne_eqb, eqb-true, eqb-false}
 use borrow.Table.Steps.{cases}
 use lib.Dec.{eqb}
 use lib.IntN.{ℤ, pos, nat_abs}
 use lib.ListN.{length, length-append, length-map}
 use Rattle.clauses.specs.Clause.{Mem, Tautology}
 use Rattle.clauses.specs.Code.{negate, net}
-use Rattle.clauses.specs.Lists.{keep, each}
+use Rattle.std.specs.List.{list_any}
+use Rattle.clauses.specs.Lists.{any, keep, each}
 use Rattle.clauses.specs.Listing.{mem, tautology}
 use Rattle.clauses.specs.Number.{signed}
 use Rattle.clauses.specs.Refusal.{first_over, is_ended, zeros, entry_tests}
 use Rattle.clauses.proofs.Clauses.{mem_in, in_mem, tautology_is, is_tautology}
 use Rattle.clauses.proofs.Deciding.{NoneHolds}
-use Rattle.clauses.proofs.Lists.{or_cases, or_left, or_right, not_is, not_eqb, eqb_not, in_first, in_second, in_third, mem_map, mem_of_map, keep_has, has_keep, keep_append, keep_length, each_elim, each_append}
+use Rattle.clauses.proofs.Lists.{or_cases, or_left, or_right, not_is, not_eqb, eqb_not, in_first, mem_map, mem_of_map, keep_has, has_keep, keep_append, keep_length, each_elim, each_append}
 use Rattle.aiger.specs.declared.ands.And.{And}
 use Rattle.aiger.specs.Circuit.{Circuit, and_clauses, is_left_out, without_false, simplified, circuit_clauses, entry_of, literal_row}
 use Rattle.aiger.specs.Reading.{entries_of}
-use Rattle.aiger.specs.Scanning.{is_true, made, clause_entries, literal_entries, and_entries}
+use Rattle.aiger.specs.Scanning.{made, clause_entries, literal_entries, and_entries}
 
 -- Clauses one after another
 
@@ -59,74 +60,19 @@ unfolding is_left_out
 has_left_out c (inl m) = or_left (tautology c) (in_mem c m)
 has_left_out c (inr t) = or_right (mem 1 c) (is_tautology c t)
 
--- two tests that hold in the same cases
-same_test : (a b : Bool) → (a ≡ true → b ≡ true) → (b ≡ true → a ≡ true) → a ≡ b
-same_test true b f g = sym (f refl)
-same_test false true f g = g refl
-same_test false false f g = refl
+-- the tests of a clause as std's search for an element answers them
+any_list : {A : Type 0} (f g : A → Bool) (xs : List A) → ((x : A) → f x ≡ g x) → any f xs ≡ list_any g xs
+unfolding any
+any_list f g [] e = refl
+any_list f g (x ∷ xs) e = rw (← e x) (cases (f x) (λ t. rw (t, any)) (λ t. rw (t, any) (any_list f g xs e)))
 
--- two literals of a clause
-is-true : (x y : ℕ) → (x ≡ 1) ⊎ (x ≡ negate y) → is_true x y ≡ true
-is-true x y (inl e) = or_left (eqb x (negate y)) (eq-eqb x 1 e)
-is-true x y (inr e) = or_right (eqb x 1) (eq-eqb x (negate y) e)
+mem_any : (x : ℕ) (c : List ℕ) → mem x c ≡ list_any (λ y. eqb y x) c
+unfolding mem
+mem_any x c = any_list (λ y. eqb x y) (λ y. eqb y x) c (λ y. cases (eqb x y) (λ t. rw (t, eq-eqb y x (sym (eqb-true x y t)))) (λ t. rw (t, ne_eqb y x (λ d. eqb-false x y t (sym d)))))
 
-true_pair : (x y : ℕ) {c : List ℕ} → Mem x c → Mem y c → is_true x y ≡ true → LeftOut c
-true_pair x y {c} p q h = ⊎_elim one two (or_cases (eqb x 1) (eqb x (negate y)) h)
-  where
-    one : eqb x 1 ≡ true → LeftOut c
-    one e = inl (Memᴰ.cast (sym (eqb-true x 1 e)) p)
-
-    two : eqb x (negate y) ≡ true → LeftOut c
-    two e = inr (record { lit = y; plain = q; inverse = Memᴰ.cast (sym (eqb-true x (negate y) e)) p })
-
--- three literals
-module _ (x y z : ℕ) where
-  in_three : {a : ℕ} → Mem a (x ∷ y ∷ z ∷ []) → (a ≡ x) ⊎ ((a ≡ y) ⊎ (a ≡ z))
-  in_three (Memᴰ.head e) = inl e
-  in_three (Memᴰ.tail (Memᴰ.head e)) = inr (inl e)
-  in_three (Memᴰ.tail (Memᴰ.tail m)) = inr (inr (Memᴰ.eq_of_singleton m))
-
-  abbrev some_true : Bool
-  some_true = is_true x y || (is_true y z || is_true z x)
-
-  test_first : (x ≡ 1) ⊎ (x ≡ negate y) → some_true ≡ true
-  test_first e = or_left (is_true y z || is_true z x) (is-true x y e)
-
-  test_second : (y ≡ 1) ⊎ (y ≡ negate z) → some_true ≡ true
-  test_second e = or_right (is_true x y) (or_left (is_true z x) (is-true y z e))
-
-  test_third : (z ≡ 1) ⊎ (z ≡ negate x) → some_true ≡ true
-  test_third e = or_right (is_true x y) (or_right (is_true y z) (is-true z x e))
-
-  has_true : LeftOut (x ∷ y ∷ z ∷ []) → some_true ≡ true
-  has_true (inl m) = go (in_three m)
-    where
-      go : (1 ≡ x) ⊎ ((1 ≡ y) ⊎ (1 ≡ z)) → some_true ≡ true
-      go (inl e) = test_first (inl (sym e))
-      go (inr (inl e)) = test_second (inl (sym e))
-      go (inr (inr e)) = test_third (inl (sym e))
-  has_true (inr t) = go t.lit (in_three t.plain) (in_three t.inverse)
-    where
-      go : (a : ℕ) → (a ≡ x) ⊎ ((a ≡ y) ⊎ (a ≡ z)) → (negate a ≡ x) ⊎ ((negate a ≡ y) ⊎ (negate a ≡ z)) → some_true ≡ true
-      go a (inl p) (inl q) = absurd (omega arith)
-      go a (inl p) (inr (inl q)) = test_first (inr (omega arith))
-      go a (inl p) (inr (inr q)) = test_third (inr (omega arith))
-      go a (inr (inl p)) (inl q) = test_first (inr (omega arith))
-      go a (inr (inl p)) (inr (inl q)) = absurd (omega arith)
-      go a (inr (inl p)) (inr (inr q)) = test_second (inr (omega arith))
-      go a (inr (inr p)) (inl q) = test_third (inr (omega arith))
-      go a (inr (inr p)) (inr (inl q)) = test_second (inr (omega arith))
-      go a (inr (inr p)) (inr (inr q)) = absurd (omega arith)
-
-  true_has : some_true ≡ true → LeftOut (x ∷ y ∷ z ∷ [])
-  true_has h =
-      ⊎_elim (true_pair x y in_first in_second)
-      (λ e. ⊎_elim (true_pair y z in_second in_third) (true_pair z x in_third in_first) (or_cases (is_true y z) (is_true z x) e))
-      (or_cases (is_true x y) (is_true y z || is_true z x) h)
-
-  pub left_out_is : is_left_out (x ∷ y ∷ z ∷ []) ≡ (is_true x y || (is_true y z || is_true z x))
-  left_out_is =
-      same_test (is_left_out (x ∷ y ∷ z ∷ [])) some_true (λ h. has_true (left_out_has (x ∷ y ∷ z ∷ []) h)) (λ h. has_left_out (x ∷ y ∷ z ∷ []) (true_has h))
+pub left_out_any : (c : List ℕ) → is_left_out c ≡ (list_any (λ y. eqb y 1) c || list_any (λ x. list_any (λ y. eqb y (negate x)) c) c)
+unfolding is_left_out tautology
+left_out_any c = rw (mem_any 1 c, any_list (λ x. mem (negate x) c) (λ x. list_any (λ y. eqb y (negate x)) c) c (λ x. mem_any (negate x) c))
 
 -- The entries of one clause
 
@@ -148,50 +94,13 @@ literal_none : map entry_of (without_false []) ≡ []
 unfolding without_false keep
 literal_none = refl
 
-pub made_three : (x y z : ℕ) → is_left_out (x ∷ y ∷ z ∷ []) ≡ false → clause_entries (x ∷ y ∷ z ∷ []) ≡ literal_entries x ++ (literal_entries y ++ (literal_entries z ++ (pos 0 ∷ [])))
-made_three x y z e = made_kept (x ∷ y ∷ z ∷ []) e ∙ rw (literal_cons x (y ∷ z ∷ []), literal_cons y (z ∷ []), literal_cons z [], literal_none) (simp (append_assoc, append-nil))
-
--- The constant F at a clause's end
-
-false_left_out : (c : List ℕ) → is_left_out (c ++ (0 ∷ [])) ≡ is_left_out c
-false_left_out c = same_test (is_left_out (c ++ (0 ∷ []))) (is_left_out c) (λ h. has_left_out c (out (left_out_has (c ++ (0 ∷ [])) h))) (λ h. has_left_out (c ++ (0 ∷ [])) (into (left_out_has c h)))
+pub made_literals : (c : List ℕ) → is_left_out c ≡ false → clause_entries c ≡ each c literal_entries ++ (pos 0 ∷ [])
+unfolding each
+made_literals c e = made_kept c e ∙ rw (literals_each c)
   where
-    in_front : {x : ℕ} → Mem x c → Mem x (c ++ (0 ∷ []))
-    in_front m = Memᴰ.append_left (0 ∷ []) m
-
-    into : LeftOut c → LeftOut (c ++ (0 ∷ []))
-    into (inl m) = inl (in_front m)
-    into (inr t) = inr (record { lit = t.lit; plain = in_front t.plain; inverse = in_front t.inverse })
-
-    behind : {x : ℕ} → Mem x (c ++ (0 ∷ [])) → Mem x c ⊎ (x ≡ 0)
-    behind m = ⊎_elim inl (λ k. inr (Memᴰ.eq_of_singleton k)) (Memᴰ.append_cases c m)
-
-    one : {x : ℕ} → x ≡ 1 → Mem x c → Mem 1 c
-    one e m = Memᴰ.cast (sym e) m
-
-    out : LeftOut (c ++ (0 ∷ [])) → LeftOut c
-    out (inl m) = inl (elim (behind m) [ inl k ↦ k | inr e ↦ absurd (omega arith) ])
-    out (inr t) = both t.lit (behind t.plain) (behind t.inverse)
-      where
-        both : (x : ℕ) → Mem x c ⊎ (x ≡ 0) → Mem (negate x) c ⊎ (negate x ≡ 0) → LeftOut c
-        both x (inl p) (inl q) = inr (record { lit = x; plain = p; inverse = q })
-        both x (inl p) (inr q) = inl (one (omega arith) p)
-        both x (inr p) (inl q) = inl (one (omega arith) q)
-        both x (inr p) (inr q) = absurd (omega arith)
-
-false_dropped : (c : List ℕ) → without_false (c ++ (0 ∷ [])) ≡ without_false c
-unfolding without_false keep
-false_dropped c = keep_append (λ x. not (eqb x 0)) c (0 ∷ []) ∙ append-nil (keep (λ x. not (eqb x 0)) c)
-
--- a clause with the constant F at its end makes the same entries
-made_false : (c : List ℕ) → clause_entries (c ++ (0 ∷ [])) ≡ clause_entries c
-made_false c = made_clause (c ++ (0 ∷ [])) ∙ rw (false_left_out c, false_dropped c) (sym (made_clause c))
-
-pub made_two : (x y : ℕ) → clause_entries (x ∷ y ∷ 0 ∷ []) ≡ clause_entries (x ∷ y ∷ [])
-made_two x y = made_false (x ∷ y ∷ [])
-
-pub made_one : (x : ℕ) → clause_entries (x ∷ 0 ∷ 0 ∷ []) ≡ clause_entries (x ∷ [])
-made_one x = made_false (x ∷ 0 ∷ []) ∙ made_false (x ∷ [])
+    literals_each : (c : List ℕ) → map entry_of (without_false c) ≡ each c literal_entries
+    literals_each [] = literal_none
+    literals_each (x ∷ c) = literal_cons x c ∙ ap (λ (l : List ℤ). literal_entries x ++ l) (literals_each c)
 
 -- The entries of AND lines and of a circuit
 
@@ -203,14 +112,11 @@ and_all g P p q r c (Memᴰ.head e) = subst⁻¹ P e p
 and_all g P p q r c (Memᴰ.tail (Memᴰ.head e)) = subst⁻¹ P e q
 and_all g P p q r c (Memᴰ.tail (Memᴰ.tail m)) = subst⁻¹ P (Memᴰ.eq_of_singleton m) r
 
-and_made : (g : And) → made (and_clauses g) ≡ clause_entries (negate g.output ∷ g.left ∷ []) ++ (clause_entries (negate g.output ∷ g.right ∷ []) ++ clause_entries (g.output ∷ negate g.left ∷ negate g.right ∷ []))
+pub made_and : (g : And) → made (and_clauses g) ≡ clause_entries (negate g.output ∷ g.left ∷ []) ++ (clause_entries (negate g.output ∷ g.right ∷ []) ++ clause_entries (g.output ∷ negate g.left ∷ negate g.right ∷ []))
 unfolding and_clauses
-and_made g =
+made_and g =
     made_append ((negate g.output ∷ g.left ∷ []) ∷ []) ((negate g.output ∷ g.right ∷ []) ∷ (g.output ∷ negate g.left ∷ negate g.right ∷ []) ∷ [])
     ∙ ap (λ (l : List ℤ). clause_entries (negate g.output ∷ g.left ∷ []) ++ l) (made_append ((negate g.output ∷ g.right ∷ []) ∷ []) ((g.output ∷ negate g.left ∷ negate g.right ∷ []) ∷ []))
-
-pub made_and : (g : And) → made (and_clauses g) ≡ clause_entries (negate g.output ∷ g.left ∷ 0 ∷ []) ++ (clause_entries (negate g.output ∷ g.right ∷ 0 ∷ []) ++ clause_entries (g.output ∷ negate g.left ∷ negate g.right ∷ []))
-made_and g = and_made g ∙ rw (made_two (negate g.output) g.left, made_two (negate g.output) g.right)
 
 pub and_entries_cons : (g : And) (gs : List And) → and_entries (g ∷ gs) ≡ made (and_clauses g) ++ and_entries gs
 unfolding each
@@ -224,8 +130,8 @@ pub circuit_made : (k : Circuit) → entries_of k ≡ made (given_clauses k)
 unfolding entries_of circuit_clauses made
 circuit_made k = refl
 
-pub circuit_entries : (k : Circuit) → entries_of k ≡ and_entries k.ands ++ clause_entries (k.output ∷ 0 ∷ 0 ∷ [])
-circuit_entries k = circuit_made k ∙ made_append (each k.ands and_clauses) ((k.output ∷ []) ∷ []) ∙ rw (made_one k.output)
+pub circuit_entries : (k : Circuit) → entries_of k ≡ and_entries k.ands ++ clause_entries (k.output ∷ [])
+circuit_entries k = circuit_made k ∙ made_append (each k.ands and_clauses) ((k.output ∷ []) ∷ [])
 
 -- Clauses that stay
 
@@ -275,7 +181,7 @@ simplified_nets cs c m x i = kept_net cs m i
 
 -- What the tests count
 
-signed_magnitude : (b : Bool) (m : ℕ) → nat_abs (signed b m) ≡ m
+pub signed_magnitude : (b : Bool) (m : ℕ) → nat_abs (signed b m) ≡ m
 signed_magnitude false m = refl
 signed_magnitude true zero = refl
 signed_magnitude true (suc m) = refl
@@ -377,7 +283,7 @@ clause_few c =
 
 pub and_few : (g : And) → length (made (and_clauses g)) ≤ 10
 and_few g =
-    rw (and_made g, length-append, length-append)
+    rw (made_and g, length-append, length-append)
     (omega (arith, clause_few (negate g.output ∷ g.left ∷ []), clause_few (negate g.output ∷ g.right ∷ []), clause_few (g.output ∷ negate g.left ∷ negate g.right ∷ [])))
 
 pub and_entries_few : (gs : List And) → length (and_entries gs) ≤ 10 * length gs
@@ -387,7 +293,7 @@ and_entries_few (g ∷ gs) = rw (and_entries_cons g gs, length-append) (omega (a
 
 pub circuit_few : (k : Circuit) → length (entries_of k) ≤ 10 * length k.ands + 2
 circuit_few k =
-    rw (circuit_entries k, length-append, made_one) (omega (arith, and_entries_few k.ands, clause_few (k.output ∷ [])))
+    rw (circuit_entries k, length-append) (omega (arith, and_entries_few k.ands, clause_few (k.output ∷ [])))
 
 -- .. and clauses
 

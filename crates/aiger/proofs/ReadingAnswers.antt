@@ -4,7 +4,7 @@ use mathlib.Core.Path.{◌≡◌, refl, sym, ◌∙◌, ap}
 use mathlib.Core.Logic.{◌↔◌}
 use mathlib.Core.Bool.{Bool, false}
 use mathlib.Core.List.{List, ◌++◌}
-use mathlib.Core.Option.{Option, none, some}
+use Rattle.std.specs.Prelude.{Option, Some, None, Ok}
 use Prim.Native.Nat.{ℕ, ◌≤◌}
 use native.Mathlib.Omega.{arith}
 use borrow.Author.Tests.{ltb-false, le-ltb}
@@ -18,16 +18,15 @@ use Rattle.clauses.specs.Reading.{Outcome, refused, accepted, numbers_tests}
 use Rattle.clauses.specs.Refusal.{decide, size_tests, entry_tests}
 use Rattle.clauses.specs.Scanning.{read_numbers}
 use Rattle.clauses.specs.declared.reading.ListSize.{ListSize}
-use Rattle.clauses.specs.declared.reading.Reading.TheVariants.{Accepted}
 use Rattle.clauses.proofs.Deciding.{NoneHolds, decide_accepted, decide_none_holds}
 use Rattle.aiger.specs.Circuit.{Runs, circuit_clauses}
 use Rattle.aiger.specs.Reading.{is_placed, sizes_of, entries_of, circuit_tests, line_tests, reading_tests, circuit_of, WellFormed, reading}
 use Rattle.aiger.proofs.CircuitTruth.{circuit_true}
 
-not_placed : (o : Option ℕ) → is_placed o ≡ false → o ≡ none
+not_placed : (o : Option ℕ) → is_placed o ≡ false → o ≡ None
 unfolding is_placed
-not_placed none e = refl
-not_placed (some p) e = let z : ◌≡◌ {A = ℕ} 0 1 = cc in absurd (omega arith)
+not_placed None e = refl
+not_placed (Some p) e = absurd cc
 
 -- of a well-formed file that is not too long, tests 4 to 7 and 10 to 12 decide
 pub well_formed_reads : (text : List ℕ) (row : List ℤ) → length text ≤ max_text → WellFormed text
@@ -35,12 +34,12 @@ pub well_formed_reads : (text : List ℕ) (row : List ℤ) → length text ≤ m
 unfolding reading read_numbers reading_tests line_tests circuit_tests circuit_of is_placed decide
 well_formed_reads text row h w = rw (le-ltb max_text (length text) h, w.header, w.counts, w.lines, w.outputs)
 
-module _ (text : List ℕ) (row : List ℤ) (s : ListSize) (e : (reading text row).result ≡ Accepted s) where
+module _ (text : List ℕ) (row : List ℤ) (s : ListSize) (e : (reading text row).result ≡ Ok s) where
   -- a text that reading accepts passes all tests
   pub accepted_none_holds : NoneHolds (reading_tests text row)
   unfolding reading refused
   accepted_none_holds =
-      decide_none_holds (refused row) _ (λ o. o.result ≡ Accepted s) (λ r h. let z : ◌≡◌ {A = ℕ} 0 1 = cc in omega arith) (reading_tests text row) e
+      decide_none_holds (refused row) _ (λ o. o.result ≡ Ok s) (λ r h. cc) (reading_tests text row) e
 
   pub accepted_well_formed : WellFormed text
   unfolding reading_tests line_tests circuit_tests circuit_of
@@ -56,7 +55,7 @@ module _ (text : List ℕ) (row : List ℤ) (s : ListSize) (e : (reading text ro
   unfolding reading
   reading_accepted = decide_accepted (refused row) _ (reading_tests text row) accepted_none_holds
 
-  size_accepted : (accepted row (sizes_of (circuit_of text)) (entries_of (circuit_of text))).result ≡ Accepted s
+  size_accepted : (accepted row (sizes_of (circuit_of text)) (entries_of (circuit_of text))).result ≡ Ok s
   size_accepted = sym (ap (λ (o : Outcome). o.result) reading_accepted) ∙ e
 
   row_accepted : (reading text row).row ≡ entries_of (circuit_of text) ++ drop (length (entries_of (circuit_of text))) row
@@ -89,7 +88,7 @@ module _ (text : List ℕ) (row : List ℤ) (s : ListSize) (e : (reading text ro
   read_tests = rw (read_accepted.0, read_accepted.1, read_accepted.2) accepted_none_holds.1.1.1.1.1.1
 
 -- the entries that reading counts lie within the row, and V within its limit
-pub read_within : (row : List ℤ) (text : List ℕ) (s : ListSize) → (reading text row).result ≡ Accepted s → (s.entries ≤ length (reading text row).row) × (s.nets ≤ max_nets)
+pub read_within : (row : List ℤ) (text : List ℕ) (s : ListSize) → (reading text row).result ≡ Ok s → (s.entries ≤ length (reading text row).row) × (s.nets ≤ max_nets)
 unfolding reading_tests line_tests circuit_tests numbers_tests sizes_of circuit_of
 read_within row text s e = (
   rw (row_accepted text row s e, length-append) (omega (arith, entries_accepted text row s e)),

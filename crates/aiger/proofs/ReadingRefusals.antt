@@ -4,7 +4,7 @@
 use mathlib.Core.Path.{◌≡◌, refl}
 use mathlib.Core.Bool.{true, false}
 use mathlib.Core.List.{List, [], ◌∷◌}
-use mathlib.Core.Option.{Option, none, some}
+use Rattle.std.specs.Prelude.{Option, Some, None, Err}
 use Prim.Native.Nat.{ℕ, ◌+◌, ◌*◌, ◌≤◌}
 use native.Mathlib.Omega.{arith}
 use borrow.Author.Tests.{ltb-true, ltb-false, le-ltb}
@@ -19,7 +19,6 @@ use Rattle.clauses.specs.Refusal.{number_of, Test, decide, text_too_long, row_to
 use Rattle.clauses.specs.Reading.{Outcome, refused, accepted, numbers_tests}
 use Rattle.clauses.specs.declared.refusal.Refusal.{Refusal}
 use Rattle.clauses.specs.declared.refusal.Refusal.TheVariants.{TextTooLong, TooManyNets, LatchesOrOutputs, AigerLine, AndOutput}
-use Rattle.clauses.specs.declared.reading.Reading.TheVariants.{Refused}
 use Rattle.clauses.proofs.Deciding.{NoneHolds, is_among, decide_first, decide_accepted, decide_among}
 use Rattle.clauses.proofs.Tests.{decide_append}
 use Rattle.clauses.proofs.ReadingRefusals.{Among, refused_among, accepted_among}
@@ -50,8 +49,8 @@ module _ (h : Header) (text : List ℕ) where
 -- a header that test 15 passes has nets for all AND lines
 header_few : (o : Option Header) → is_header_bad o ≡ false → (the_header o).ands ≤ (the_header o).nets
 unfolding is_header_bad the_header
-header_few none e = omega arith
-header_few (some h) e = omega (arith, ltb-false h.nets (h.inputs + h.latches + h.ands) e)
+header_few None e = omega arith
+header_few (Some h) e = omega (arith, ltb-false h.nets (h.inputs + h.latches + h.ands) e)
 
 module _ (text : List ℕ) (row : List ℤ) where
   abbrev k : Circuit
@@ -98,11 +97,11 @@ module _ (text : List ℕ) (row : List ℤ) where
     refusals_among = rw parts (decide_among (refused row) _ (Among ns) ns (refused_among ns row) First first behind_nets)
 
   -- with any row, and with one that has room for the entries of any text
-  pub reading_refusals : (r : Refusal) → (reading text row).result ≡ Refused r → mem (number_of r) (4 ∷ reading_numbers) ≡ true
+  pub reading_refusals : (r : Refusal) → (reading text row).result ≡ Err r → mem (number_of r) (4 ∷ reading_numbers) ≡ true
   unfolding Among all any mem is_among First
   reading_refusals = refusals_among (4 ∷ reading_numbers) refl refl
 
-  pub reading_refusals_room : 109222 ≤ length row → (r : Refusal) → (reading text row).result ≡ Refused r → mem (number_of r) reading_numbers ≡ true
+  pub reading_refusals_room : 109222 ≤ length row → (r : Refusal) → (reading text row).result ≡ Err r → mem (number_of r) reading_numbers ≡ true
   unfolding Among all any mem is_among First
   reading_refusals_room room =
       cases (ltb max_text (length text)) (λ t. rw (← text_long text row (ltb-true max_text (length text) t)) (refused_among reading_numbers row TextTooLong refl))

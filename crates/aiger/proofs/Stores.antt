@@ -3,25 +3,29 @@
 use mathlib.Core.Path.{◌≡◌, refl, sym, ◌∙◌, ap}
 use mathlib.Core.Logic.{◌≢◌}
 use mathlib.Core.Bool.{Bool, true, false, cond}
-use mathlib.Core.List.{List, [], ◌∷◌, ◌++◌, map}
+use mathlib.Core.List.{List, [], ◌∷◌, ◌++◌, map, append-nil}
 use Prim.Native.Nat.{ℕ, ◌+◌, ◌%◌, ◌≤◌, ◌<◌}
 use native.Mathlib.Nat.{zero-add}
+use native.Mathlib.Numerals.{add-one}
 use native.Mathlib.Omega.{arith}
 use borrow.Author.Tests.{eq-eqb, ne_eqb}
 use borrow.Table.Steps.{cases}
 use lib.Dec.{eqb}
 use lib.IntN.{ℤ, nat_abs}
-use lib.ListN.{length, set, length-map}
-use lib.Seq.{sets}
-use Rattle.clauses.specs.Code.{negate, net}
+use lib.ListN.{length, get_or, set, take, length-append, length-map}
+use lib.Seq.{sets, take-suc, length-take-le}
+use Rattle.clauses.specs.Code.{net}
+use Rattle.clauses.specs.Lists.{each}
 use Rattle.clauses.specs.Number.{signed}
-use Rattle.clauses.specs.Tally.{step, tallied, tally_of}
+use Rattle.clauses.specs.Tally.{start, step, tallied, tally_of}
 use Rattle.clauses.specs.declared.tally.EntryTally.{EntryTally}
-use Rattle.clauses.proofs.Tallies.{tally_append}
+use Rattle.clauses.proofs.Lists.{each_append}
+use Rattle.clauses.proofs.Tallies.{tally_none, tally_append}
 use Rattle.clauses.proofs.Writes.{sets_append}
 use Rattle.aiger.specs.Circuit.{entry_of}
-use Rattle.aiger.specs.Scanning.{Room, Stored, literal_entries}
-use Rattle.aiger.proofs.Entries.{entry_magnitude}
+use Rattle.aiger.specs.declared.clause.MadeEntries.{MadeEntries}
+use Rattle.aiger.specs.Scanning.{Room, Stored, Put, literal_entries}
+use Rattle.aiger.proofs.Entries.{signed_magnitude}
 
 module _ (v : ℕ) where
   -- magnitudes counted one after another
@@ -59,16 +63,6 @@ module _ (v : ℕ) where
   unfolding tallied
   stored_entry z e k = record { tally = e; content = k }
 
-  -- the entry of a literal, unless it is the constant F
-  pub stored_false : (x : ℕ) {t : EntryTally} {kept : List ℤ} → x ≡ 0 → Stored v t kept (literal_entries x) t kept
-  unfolding literal_entries
-  stored_false x {t} {kept} e = rw (eq-eqb x 0 e) (stored_none t kept)
-
-  pub stored_literal : (x : ℕ) {t u : EntryTally} {kept kept' : List ℤ} → x ≢ 0 → u ≡ step v t (net x)
-      → kept' ≡ set kept t.entries (signed (eqb (x % 2) 1) (net x)) → Stored v t kept (literal_entries x) u kept'
-  unfolding literal_entries entry_of
-  stored_literal x {t} n e k = rw (ne_eqb x 0 n) (stored_entry (entry_of x) (e ∙ ap (step v t) (sym (entry_magnitude x))) k)
-
   module _ {t u : EntryTally} {kept kept' es : List ℤ} (s : Stored v t kept es u kept') where
     pub stored_count : u.entries ≡ t.entries + length es
     stored_count = ap (λ (w : EntryTally). w.entries) s.tally ∙ tallied_entries t (map nat_abs es) ∙ ap (λ (n : ℕ). t.entries + n) (length-map es nat_abs)
@@ -94,9 +88,53 @@ module _ (v : ℕ) where
   unfolding tally_of
   stored_all kept es {fs = fs} e s = (s.tally ∙ tally_append v fs es, s.content ∙ rw (e, ← zero-add (length es)) (sym (sets_append kept 0 es fs)))
 
-pub literal_few : (x : ℕ) → length (literal_entries x) ≤ 1
+literal_few : (x : ℕ) → length (literal_entries x) ≤ 1
 unfolding literal_entries
 literal_few x = cases (eqb x 0) (λ t. rw t (omega arith)) (λ t. rw t (omega arith))
 
-pub negate_small : (x : ℕ) → x < 1000000000 → negate x < 1000000000
-negate_small x h = omega arith
+pub literals_few : (c : List ℕ) → length (each c literal_entries) ≤ length c
+unfolding each
+literals_few [] = omega arith
+literals_few (x ∷ c) = rw length-append (omega (arith, literal_few x, literals_few c))
+
+pub literals_next : (c : List ℕ) (i : ℕ) → i < length c → each (take (i + 1) c) literal_entries ≡ each (take i c) literal_entries ++ literal_entries (get_or c i 0)
+unfolding each
+literals_next c i h = rw (add-one, take-suc c i 0 h, each_append) (ap (λ (l : List ℤ). each (take i c) literal_entries ++ l) (one (get_or c i 0)))
+  where
+    one : (x : ℕ) → each (x ∷ []) literal_entries ≡ literal_entries x
+    one x = append-nil (literal_entries x)
+
+-- The same with a row of entries that are made
+
+-- an entry more
+pub put_entry : (e : MadeEntries) (minus : Bool) (n : ℕ) {f : MadeEntries} → f.nets ≡ e.nets → f.tally ≡ step e.nets e.tally n → f.row ≡ set e.row e.tally.entries (signed minus n) → Put e (signed minus n ∷ []) f
+put_entry e minus n v t r =
+    record { nets_are = v; stored = stored_entry e.nets (signed minus n) (t ∙ ap (step e.nets e.tally) (sym (signed_magnitude minus n))) r }
+
+pub put_none : (e : MadeEntries) → Put e [] e
+put_none e = record { nets_are = refl; stored = stored_none e.nets e.tally e.row }
+
+module _ {e f : MadeEntries} {es : List ℤ} (s : Put e es f) where
+  pub put_then : {g : MadeEntries} {fs : List ℤ} → Put f fs g → Put e (es ++ fs) g
+  put_then {g} {fs} b = record { nets_are = b.nets_are ∙ s.nets_are; stored = stored_then e.nets s.stored (rw s.nets_are at b.stored) }
+
+  pub put_room : (m n : ℕ) → Room e.tally m → length es + n ≤ m → Room f.tally n
+  put_room m n r h = stored_room e.nets s.stored m n r h
+
+  -- from the start on
+  pub put_start : e.tally ≡ start → (f.tally ≡ tally_of e.nets es) × (f.row ≡ sets e.row 0 es)
+  put_start h = stored_all e.nets e.row [] refl (rw (h, tally_none e.nets []) at s.stored)
+
+-- the room that the first i literals of a clause leave
+pub literals_room : {e f : MadeEntries} (c : List ℕ) (i : ℕ) → Put e (each (take i c) literal_entries) f → i ≤ length c → Room e.tally (length c + 1)
+    → (n : ℕ) → i + n ≤ length c + 1 → Room f.tally n
+literals_room c i s h r n k = put_room s (length c + 1) n r (omega (arith, literals_few (take i c), length-take-le i c h))
+
+-- the entry of a literal, unless it is the constant F
+pub literal_false : (x : ℕ) → x ≡ 0 → literal_entries x ≡ []
+unfolding literal_entries
+literal_false x e = rw (eq-eqb x 0 e)
+
+pub literal_there : (x : ℕ) → x ≢ 0 → literal_entries x ≡ signed (eqb (x % 2) 1) (net x) ∷ []
+unfolding literal_entries entry_of
+literal_there x n = rw (ne_eqb x 0 n)

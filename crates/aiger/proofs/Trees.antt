@@ -92,11 +92,8 @@ module _ (x n : ℕ) (keys links : List ℕ) (tree : Tree n keys links) where
         none e (on k d m) = omega (arith, e, d)
 
     module _ (h : 0 < node) where
-      pub node_low : node ≤ n
+      node_low : node ≤ n
       node_low = omega (arith, s.here_is, tree.within slot)
-
-      pub slot_rises : slot + 2 ≤ 2 * node
-      slot_rises = let k : 0 < get_or links slot 0 = omega (arith, s.here_is) in omega (arith, s.here_is, tree.rises slot k)
 
       pub search_present : get_or keys (node - 1) 0 ≡ x → mem x (take n keys) ≡ true
       search_present e = key_mem x n keys tree.room (node - 1) (omega (arith, node_low)) e

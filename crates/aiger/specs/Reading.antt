@@ -1,9 +1,9 @@
 -- What an AIGER text reads as: the tests in document 02's order, and the clauses of its circuit.
 -- Assumes nothing.
-use Rattle.std.specs.Prelude.{◌≡◌, Bool, true, false, cond, List, [], ◌∷◌, ℕ, ◌+◌, eqb, ltb, ℤ, length}
-use Rattle.std.proofs.Math.Option.{Option, none, some}
+use Rattle.std.specs.Prelude.{Option, Some, None, ◌≡◌, Bool, true, false, cond, List, [], ◌∷◌, ℕ, ◌+◌, eqb, ltb, ℤ, length}
 use Rattle.clauses.specs.Refusal.{Test, decide, text_too_long}
-use Rattle.clauses.specs.Reading.{Sizes, Outcome, refused, accepted, numbers_tests}
+use Rattle.clauses.specs.declared.header.Sizes.{Sizes}
+use Rattle.clauses.specs.Reading.{Outcome, refused, accepted, numbers_tests}
 use Rattle.clauses.specs.declared.refusal.Refusal.{Refusal}
 use Rattle.clauses.specs.declared.refusal.Refusal.TheVariants.{AigerHeader, LatchesOrOutputs, AigerLine, AndOutput}
 use Rattle.aiger.specs.declared.header.Header.{Header}
@@ -12,38 +12,38 @@ use Rattle.aiger.specs.Line.{header_of, Lines, said, faulty, circuit_lines, bad_
 
 -- a test that holds where there is a place, and gives it
 unfoldable pub is_placed : Option ℕ → Bool
-is_placed none = false
-is_placed (some p) = true
+is_placed None = false
+is_placed (Some p) = true
 
 unfoldable pub placed : Option ℕ → ℕ
-placed none = 0
-placed (some p) = p
+placed None = 0
+placed (Some p) = p
 
 abbrev pub place_test : (ℕ → Refusal) → Option ℕ → Test
 place_test refusal o = record { holds = is_placed o; refusal = refusal (placed o) }
 
 -- 15. 'header malformed or M under I + L + A' (place: the line's start, which is the text's)
 unfoldable pub is_header_bad : Option Header → Bool
-is_header_bad none = true
-is_header_bad (some h) = ltb h.nets (h.inputs + h.latches + h.ands)
+is_header_bad None = true
+is_header_bad (Some h) = ltb h.nets (h.inputs + h.latches + h.ands)
 
 abbrev pub header_bad : Option Header → Test
 header_bad o = record { holds = is_header_bad o; refusal = AigerHeader }
 
 -- 16. 'latches or an output count other than 1' (place: the count's)
 unfoldable pub bad_count : Header → Option ℕ
-bad_count h = cond (eqb h.latches 0) (cond (eqb h.outputs 1) none (some h.outputplace)) (some h.latchplace)
+bad_count h = cond (eqb h.latches 0) (cond (eqb h.outputs 1) None (Some h.outputs_at)) (Some h.latches_at)
 
 -- 17. 'a missing or malformed line, a literal over 2M + 1, or an input that is odd, 0 or listed before' (place: 'the first such line's start .. ; the text's
 -- length if missing')
 unfoldable pub faulty_at : Lines Circuit → Option ℕ
-faulty_at (said k q) = none
-faulty_at (faulty p) = some p
+faulty_at (said k q) = None
+faulty_at (faulty p) = Some p
 
 -- the header and the circuit, where the tests before do not hold
 unfoldable pub the_header : Option Header → Header
-the_header none = record { nets = 0; inputs = 0; latches = 0; outputs = 0; ands = 0; latchplace = 0; outputplace = 0; lines = 0 }
-the_header (some h) = h
+the_header None = record { nets = 0; inputs = 0; latches = 0; outputs = 0; ands = 0; latches_at = 0; outputs_at = 0; lines = 0 }
+the_header (Some h) = h
 
 unfoldable pub the_circuit : Lines Circuit → Circuit
 the_circuit (said k q) = k
@@ -82,9 +82,9 @@ circuit_of text = the_circuit (lines_of text)
 -- before it is or sets; how large it is does not matter
 pub record WellFormed (text : List ℕ) : Type 0 where
   pub header : is_header_bad (header_of text) ≡ false
-  pub counts : bad_count (the_header (header_of text)) ≡ none
-  pub lines : faulty_at (lines_of text) ≡ none
-  pub outputs : bad_output (circuit_of text).inputs (circuit_of text).ands ≡ none
+  pub counts : bad_count (the_header (header_of text)) ≡ None
+  pub lines : faulty_at (lines_of text) ≡ None
+  pub outputs : bad_output (circuit_of text).inputs (circuit_of text).ands ≡ None
 
 unfoldable pub reading : List ℕ → List ℤ → Outcome
 reading text row =

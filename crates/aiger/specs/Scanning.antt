@@ -1,62 +1,39 @@
 -- What the inner functions of reading say of a text; no entry point's contract cites these.
 -- Assumes nothing.
-use Rattle.std.specs.Prelude.{◌≡◌, Bool, true, false, cond, ◌||◌, List, [], ◌∷◌, ◌++◌, map, ℕ, ◌+◌, ◌*◌, ◌≤◌, ◌<◌, eqb, ℤ, nat_abs, length, set, take}
-use Rattle.std.proofs.Math.Option.{Option, none, some}
+use Rattle.std.specs.Prelude.{Option, Some, None, Result, Ok, Err, ◌≡◌, true, false, cond, List, [], ◌∷◌, ◌++◌, map, ℕ, ◌+◌, ◌*◌, ◌≤◌, ◌<◌, eqb, ℤ, nat_abs, length}
 use Rattle.std.proofs.lemmas.List.Edits.{sets}
-use Rattle.clauses.specs.Code.{negate}
 use Rattle.clauses.specs.Lists.{each}
 use Rattle.clauses.specs.Reading.{Outcome, refused, accepted}
 use Rattle.clauses.specs.Refusal.{decide}
-use Rattle.clauses.specs.Tally.{tallied, tally_of}
-use Rattle.clauses.specs.declared.number.Unsigned.{Unsigned}
-use Rattle.clauses.specs.declared.number.Unsigned.TheVariants as U
+use Rattle.clauses.specs.Tally.{tallied}
+use Rattle.clauses.specs.declared.refusal.Refusal.{Refusal}
+use Rattle.clauses.specs.declared.refusal.Refusal.TheVariants.{AigerLine, AndOutput}
 use Rattle.clauses.specs.declared.tally.EntryTally.{EntryTally}
-use Rattle.aiger.specs.declared.header.Header.{Header}
-use Rattle.aiger.specs.declared.header.Heading.{Heading}
-use Rattle.aiger.specs.declared.header.Heading.TheVariants as H
-use Rattle.aiger.specs.declared.inputs.LinesEnd.{LinesEnd}
-use Rattle.aiger.specs.declared.inputs.LinesEnd.TheVariants as L
 use Rattle.aiger.specs.declared.ands.And.{And}
-use Rattle.aiger.specs.declared.ands.AndLine.{AndLine}
-use Rattle.aiger.specs.declared.ands.AndLine.TheVariants as G
-use Rattle.aiger.specs.declared.ands.Scan.{Scan}
-use Rattle.aiger.specs.declared.ands.Scan.TheVariants as S
+use Rattle.aiger.specs.declared.clause.MadeEntries.{MadeEntries}
 use Rattle.aiger.specs.Circuit.{Circuit, and_clauses, simplified, entry_of, literal_row}
-use Rattle.aiger.specs.Line.{Field, AndField, Lines, said, faulty, input_lines, is_new, bad_output}
+use Rattle.aiger.specs.Line.{Lines, said, faulty, input_lines, is_new, bad_output}
 use Rattle.aiger.specs.Reading.{sizes_of, entries_of, line_tests, the_circuit}
-use Rattle.aiger.specs.Tree.{Tree}
 
--- Numbers and lines, as the functions answer them
+-- Input lines
 
-abbrev pub as_unsigned : Option Field → Unsigned
-as_unsigned none = U.Malformed
-as_unsigned (some f) = U.Value f.value f.next
-
-abbrev pub as_heading : Option Header → Heading
-as_heading none = H.Malformed
-as_heading (some h) = H.Found h
-
-abbrev pub as_and_line : Option AndField → AndLine
-as_and_line none = G.Malformed
-as_and_line (some g) = G.Gate g.gate g.next
-
--- the input lines from a place on are as they should be, their literals are the first keys, and place p lies behind them
-pub record InputsListed (m : ℕ) (text : List ℕ) (count from p : ℕ) (keys links : List ℕ) : Type 0 where
-  pub lines_are : input_lines m text count [] from ≡ said (take count keys) p
-  pub tree : Tree count keys links
-  pub far : 2 * count ≤ p
+-- the input lines from a place on are as they should be, their literals are listed, and place p lies behind them
+pub record InputsListed (m : ℕ) (text : List ℕ) (count from p : ℕ) (listed : List ℕ) : Type 0 where
+  pub lines_are : input_lines m text count [] from ≡ said listed p
+  pub far : 2 * length listed ≤ p
   pub within : p ≤ length text
 
--- .. or they are not
-abbrev pub InputsRead : ℕ → List ℕ → ℕ → ℕ → LinesEnd → List ℕ → List ℕ → Type 0
-InputsRead m text count from (L.Faulty p) keys links = input_lines m text count [] from ≡ faulty p
-InputsRead m text count from (L.At p) keys links = InputsListed m text count from p keys links
+-- .. or one is not, and its start is the refusal's place
+pub record InputsFaulty (m : ℕ) (text : List ℕ) (count from : ℕ) (r : Refusal) : Type 0 where
+  pub at : ℕ
+  pub lines_are : input_lines m text count [] from ≡ faulty at
+  pub refusal_is : r ≡ AigerLine at
+
+abbrev pub InputsRead : ℕ → List ℕ → ℕ → ℕ → Result ℕ Refusal → List ℕ → Type 0
+InputsRead m text count from (Err r) listed = InputsFaulty m text count from r
+InputsRead m text count from (Ok p) listed = InputsListed m text count from p listed
 
 -- Entries made
-
--- the first of two literals is T or the inverse of the other
-abbrev pub is_true : ℕ → ℕ → Bool
-is_true x y = eqb x 1 || eqb x (negate y)
 
 -- the entries that clauses make, simplified
 unfoldable pub made : List (List ℕ) → List ℤ
@@ -79,58 +56,48 @@ pub record Stored (v : ℕ) (t : EntryTally) (kept es : List ℤ) (t' : EntryTal
   pub tally : t' ≡ tallied v t (map nat_abs es)
   pub content : kept' ≡ sets kept t.entries es
 
+-- .. and put with the entries that are made already
+pub record Put (e : MadeEntries) (es : List ℤ) (e' : MadeEntries) : Type 0 where
+  pub nets_are : e'.nets ≡ e.nets
+  pub stored : Stored e.nets e.tally e.row es e'.tally e'.row
+
 -- AND lines
 
 -- the entries that AND lines make
 abbrev pub and_entries : List And → List ℤ
 and_entries gs = made (each gs and_clauses)
 
--- what AND lines come to: the entries made; the start of the first line whose output is not new; or that of the first line that is faulty
-pub data AndsResult : Type 0 where
-  entries : List ℤ → AndsResult
-  set_at : ℕ → AndsResult
-  faulty-at : ℕ → AndsResult
+-- what AND lines come to: the entries made, unless an output is not new
+unfoldable pub or_set : Option ℕ → List ℤ → Result (List ℤ) Refusal
+or_set None es = Ok es
+or_set (Some p) es = Err (AndOutput p)
 
--- the entries, unless an output is not new
-unfoldable pub or_set : Option ℕ → List ℤ → AndsResult
-or_set none es = entries es
-or_set (some p) es = set_at p
-
--- .. behind lines that have set the nets before and have made the entries es
-unfoldable pub ands_result : List ℕ → List ℤ → Lines (List And) → AndsResult
-ands_result before es (faulty p) = faulty-at p
+-- .. or a line is faulty; behind lines that have set the nets before and have made the entries es
+unfoldable pub ands_result : List ℕ → List ℤ → Lines (List And) → Result (List ℤ) Refusal
+ands_result before es (faulty p) = Err (AigerLine p)
 ands_result before es (said gs q) = or_set (bad_output before gs) (es ++ and_entries gs)
 
-unfoldable pub as_scan : ℕ → AndsResult → Scan
-as_scan m (entries es) = S.Made (tally_of m es)
-as_scan m (set_at p) = S.OutputSet p
-as_scan m (faulty-at p) = S.Faulty p
-
--- what take_and asks: an AND line's literals have at most nine digits; and, as long as all outputs were new, there is room for one more
-pub record Ready (g : And) (n : ℕ) (scan : Scan) (keys links : List ℕ) : Type 0 where
+-- what the clauses of an AND line ask: its literals have at most nine digits, and there is room for their entries
+pub record Ready (g : And) (t : EntryTally) : Type 0 where
   pub output_small : g.output < 1000000000
   pub left_small : g.left < 1000000000
   pub right_small : g.right < 1000000000
-  pub making : (t : EntryTally) → scan ≡ S.Made t → Room t 12 × Tree n keys links × (n < length keys)
+  pub room : Room t 10
 
--- the entries of an AND line's clauses were put behind those of the tally t, and its output is key n
-pub record Making (g : And) (m n : ℕ) (t : EntryTally) (keys : List ℕ) (kept : List ℤ) (scan : Scan) (keys' links' : List ℕ) (kept' : List ℤ) : Type 0 where
-  pub tally : EntryTally
-  pub scan_is : scan ≡ S.Made tally
-  pub stored : Stored m t kept (made (and_clauses g)) tally kept'
-  pub keys_are : keys' ≡ set keys n g.output
-  pub tree : Tree (n + 1) keys' links'
+-- the entries of an AND line's clauses were put, and its output is listed
+pub record Making (g : And) (listed : List ℕ) (e : MadeEntries) (listed' : List ℕ) (e' : MadeEntries) : Type 0 where
+  pub put : Put e (made (and_clauses g)) e'
+  pub listed_are : listed' ≡ listed ++ (g.output ∷ [])
 
 -- what taking an AND line leaves
-pub record AndTaken (g : And) (m n : ℕ) (scan : Scan) (keys : List ℕ) (kept : List ℤ) (scan' : Scan) (keys' links' : List ℕ) (kept' : List ℤ) : Type 0 where
-  pub new : (t : EntryTally) → scan ≡ S.Made t → is_new (take n keys) g.output ≡ true → Making g m n t keys kept scan' keys' links' kept'
-  pub not_new : (t : EntryTally) → scan ≡ S.Made t → is_new (take n keys) g.output ≡ false → scan' ≡ S.OutputSet g.place
-  pub set_before : (p : ℕ) → scan ≡ S.OutputSet p → scan' ≡ S.OutputSet p
+pub record AndTaken (g : And) (listed : List ℕ) (e : MadeEntries) (taken : Result (Unit {0}) Refusal) (listed' : List ℕ) (e' : MadeEntries) : Type 0 where
+  pub new : is_new listed g.output ≡ true → (taken ≡ Ok tt) × Making g listed e listed' e'
+  pub not_new : is_new listed g.output ≡ false → taken ≡ Err (AndOutput g.place)
 
--- what the scan of AND lines comes to, and what the row then holds
-pub record AndsRead (m : ℕ) (result : AndsResult) (kept : List ℤ) (scan : Scan) (kept' : List ℤ) : Type 0 where
-  pub scan_is : scan ≡ as_scan m result
-  pub content : (es : List ℤ) → result ≡ entries es → kept' ≡ sets kept 0 es
+-- what the scan of AND lines answers, and the entries that it makes
+abbrev pub AndsRead : Result (List ℤ) Refusal → MadeEntries → Result (Unit {0}) Refusal → MadeEntries → Type 0
+AndsRead (Ok es) e scan e' = (scan ≡ Ok tt) × Put e es e'
+AndsRead (Err r) e scan e' = scan ≡ Err r
 
 -- what reading comes to once the lines are read
 unfoldable pub read_lines : List ℤ → Lines Circuit → Outcome

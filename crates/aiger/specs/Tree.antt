@@ -1,9 +1,11 @@
 -- What the functions of the digital search tree say of it; no entry point's contract cites these.
 -- Assumes nothing.
-use Rattle.std.specs.Prelude.{◌≡◌, Bool, true, false, List, ℕ, ◌+◌, ◌*◌, ◌/◌, ◌%◌, ◌≤◌, ◌<◌, length, get_or, set, take}
+use Rattle.std.specs.Prelude.{Option, Some, None, ◌≡◌, true, false, List, ℕ, ◌+◌, ◌*◌, ◌/◌, ◌%◌, ◌≤◌, ◌<◌, length, get_or, set, take}
 use Rattle.clauses.specs.Listing.{mem}
-use Rattle.aiger.specs.declared.tree.Search.{Search}
-use Rattle.aiger.specs.declared.tree.Search.TheVariants.{Present, Absent}
+
+-- how many keys there is room for
+abbrev pub max_keys : ℕ
+max_keys = 32768
 
 -- the slot below node i for the lowest bit of what is left of a net
 abbrev pub below : ℕ → ℕ → ℕ
@@ -32,11 +34,7 @@ pub record Vacant (x n : ℕ) (keys links : List ℕ) (slot : ℕ) : Type 0 wher
   pub empty : get_or links slot 0 ≡ 0
   pub leads : Leads (set links slot (n + 1)) n 0 (x / 2)
 
-abbrev pub Searched : ℕ → ℕ → List ℕ → List ℕ → Search → Type 0
-Searched x n keys links Present = mem x (take n keys) ≡ true
-Searched x n keys links (Absent slot) = Vacant x n keys links slot
-
--- what adding x as key n leaves, if it is new
-pub record Added (new : Bool) (x n : ℕ) (keys keys' links' : List ℕ) : Type 0 where
-  pub keys_are : new ≡ true → keys' ≡ set keys n x
-  pub tree : new ≡ true → Tree (n + 1) keys' links'
+-- what a search answers: an empty slot, unless x is there
+abbrev pub Searched : ℕ → ℕ → List ℕ → List ℕ → Option ℕ → Type 0
+Searched x n keys links None = mem x (take n keys) ≡ true
+Searched x n keys links (Some slot) = Vacant x n keys links slot

@@ -1,15 +1,17 @@
 // The AND lines.
 
-ghost use Rattle.std.specs.Prelude.{◌≡◌, [], ◌*◌, ◌≤◌, length, take};
+ghost use Rattle.std.specs.Prelude.{◌≡◌, [], ◌+◌, ◌*◌, ◌≤◌, ◌<◌, length};
+ghost use Rattle.clauses.specs.Limit.{max_text};
+ghost use Rattle.clauses.specs.Tally.{start};
 ghost use Rattle.aiger.specs.Line.{and_at, and_lines};
-ghost use Rattle.aiger.specs.Scanning.{as_and_line, Ready, AndTaken, ands_result, AndsRead};
-ghost use Rattle.aiger.specs.Tree.{Tree};
+ghost use Rattle.aiger.specs.Scanning.{Ready, AndTaken, ands_result, AndsRead};
+ghost use Rattle.aiger.specs.Tree.{max_keys};
 
-use crate::clause::put_and;
+use crate::clause::MadeEntries;
+use crate::header::Header;
 use crate::line::read_literal;
-use crate::tree::add_new;
-use clauses::number::Unsigned;
-use clauses::tally::EntryTally;
+use crate::tree::LiteralTree;
+use clauses::refusal::Refusal;
 
 // The place of an AND line, and its literals.
 #[derive(Clone, Copy)]
@@ -22,95 +24,66 @@ pub struct And {
 
 // An AND line, and the place behind it.
 #[derive(Clone, Copy)]
-pub enum AndLine {
-    Gate(And, usize),
-    Malformed,
+pub struct AndLine {
+    pub gate: And,
+    pub next: usize,
 }
 
-// What AND lines come to: the tally of the entries made; the start of the first line whose output is not new; or that of the first
-// line that is not as it should be.
-#[derive(Clone, Copy)]
-pub enum Scan {
-    Made(EntryTally),
-    OutputSet(usize),
-    Faulty(usize),
-}
-
-// The AND line at a place, of a circuit with m nets.
-fn read_and(text: &[u8], at: usize, m: u32) -> AndLine
-    ensures { result ≡ as_and_line (and_at m text.now at) }
+// The AND line at a place, of a circuit with so many nets.
+#[tactic(auto, unfolding(crate::specs::Line::and_at))]
+fn read_and(text: &[u8], at: usize, nets: u32) -> Option<AndLine>
+    ensures { result ≡ and_at nets text.now at }
 {
-    let Unsigned::Value(output, left_at) = read_literal(text, at, b' ', m) else {
-        return AndLine::Malformed;
-    };
-    let Unsigned::Value(left, right_at) = read_literal(text, left_at, b' ', m) else {
-        return AndLine::Malformed;
-    };
-    let Unsigned::Value(right, next) = read_literal(text, right_at, b'\n', m) else {
-        return AndLine::Malformed;
-    };
-    AndLine::Gate(
-        And {
+    let output = read_literal(text, at, b' ', nets)?;
+    let left = read_literal(text, output.next, b' ', nets)?;
+    let right = read_literal(text, left.next, b'\n', nets)?;
+    Some(AndLine {
+        gate: And {
             place: at,
-            output: output,
-            left: left,
-            right: right,
+            output: output.value,
+            left: left.value,
+            right: right.value,
         },
-        next,
-    )
+        next: right.next,
+    })
 }
 
-// Makes the clauses of an AND line, whose output becomes key n, if it and those of all lines before are new.
-fn take_and(
-    g: And,
-    m: u32,
-    n: usize,
-    scan: Scan,
-    keys: &mut [u32],
-    links: &mut [u16],
-    kept: &mut [i32],
-) -> Scan
-    requires { Ready g n scan keys.old links.old }
-    ensures { AndTaken g m n scan keys.old kept.old result keys.new links.new kept.new }
+// Makes the clauses of an AND line, if its output is new.
+fn take_and(g: And, tree: &mut LiteralTree, entries: &mut MadeEntries) -> Result<(), Refusal>
+    requires ready { Ready g entries.old.tally }
+    requires room { length tree.old < max_keys }
+    ensures { AndTaken g tree.old entries.old result tree.new entries.new }
 {
-    match scan {
-        Scan::Faulty(p) => Scan::Faulty(p),
-        Scan::OutputSet(p) => Scan::OutputSet(p),
-        Scan::Made(t) => {
-            if !add_new(g.output, n, keys, links) {
-                return Scan::OutputSet(g.place);
-            }
-            Scan::Made(put_and(g, m, t, kept))
-        }
+    if !tree.add_new(g.output) {
+        return Err(Refusal::AndOutput(g.place));
     }
+    entries.put_and(g);
+    Ok(())
 }
 
-// Reads count AND lines from a place on, of a circuit with m nets and so many inputs, which are the first keys; the entries of their
-// clauses go to the start of kept, as far as it has room. All lines are read, also those behind an output that is not new.
+// Reads the AND lines from a place on, behind the input lines, whose literals are in the tree, and makes the entries of their clauses.
+// All lines are read, also those behind an output that is not new.
 pub fn scan_ands(
     text: &[u8],
     from: usize,
-    count: u32,
-    m: u32,
-    inputs: usize,
-    keys: &mut [u32],
-    links: &mut [u16],
-    kept: &mut [i32],
-) -> Scan
-    requires tree { Tree inputs keys.old links.old }
-    requires inputs_bound { (2 * inputs ≤ from) × (from ≤ length text.now) × (length text.now ≤ 2 * length keys.old) }
-    ensures { AndsRead m (ands_result (take inputs keys.old) [] (and_lines m text.now count from)) kept.old result kept.new }
+    header: Header,
+    tree: &mut LiteralTree,
+    entries: &mut MadeEntries,
+) -> Result<(), Refusal>
+    requires lines_in_bounds { (2 * length tree.old ≤ from) × (from ≤ length text.now) × (length text.now ≤ max_text) }
+    requires none_made { entries.old.tally ≡ start }
+    ensures { AndsRead (ands_result tree.old [] (and_lines header.nets text.now header.ands from)) entries.old result entries.new }
 {
-    let mut scan = Scan::Made(EntryTally::start());
+    let mut outputs = Ok(());
     let mut at = from;
-    let mut i: usize = 0;
-    while i < count as usize {
-        let AndLine::Gate(g, next) = read_and(text, at, m) else {
-            return Scan::Faulty(at);
+    for _ in 0..header.ands {
+        let Some(line) = read_and(text, at, header.nets) else {
+            return Err(Refusal::AigerLine(at));
         };
-        scan = take_and(g, m, inputs + i, scan, keys, links, kept);
-        at = next;
-        i += 1;
+        if outputs.is_ok() {
+            outputs = take_and(line.gate, tree, entries);
+        }
+        at = line.next;
     }
-    scan
+    outputs
 }

@@ -1,71 +1,103 @@
-// The clauses of an AND line and of the output, made as entries of a row, and their tally.
+// The clauses of an AND line and of the output, made as entries of a row.
 
-ghost use Rattle.std.specs.Prelude.{◌≡◌, ◌∷◌, [], ◌+◌, ◌<◌};
+ghost use Rattle.std.specs.Prelude.{◌≡◌, [], ◌∷◌, ◌+◌, ◌*◌, ◌<◌, eqb, length, All};
+ghost use Rattle.std.specs.List.{list_any};
+ghost use Rattle.clauses.specs.Code.{negate};
 ghost use Rattle.aiger.specs.Circuit.{is_left_out, and_clauses};
-ghost use Rattle.aiger.specs.Scanning.{is_true, Room, Stored, literal_entries, clause_entries, made};
+ghost use Rattle.clauses.specs.Number.{signed};
+ghost use Rattle.clauses.specs.Tally.{start};
+ghost use Rattle.aiger.specs.Scanning.{Room, Put, Ready, literal_entries, clause_entries, made};
 
 use crate::ands::And;
 use clauses::entry::put_entry;
+use clauses::limits::MAX_ENTRIES;
 use clauses::sign::inverse;
 use clauses::tally::EntryTally;
 
-// Whether the first of two literals is the constant T or the inverse of the other.
-fn is_true(x: u32, y: u32) -> bool
-    ensures { result ≡ is_true x y }
+// Whether a clause has a literal or a constant.
+fn has(clause: &[u32], x: u32) -> bool
+    ensures { result ≡ list_any (λ y. eqb y x) clause.now }
 {
-    if x == 1 {
-        return true;
-    }
-    x == inverse(y)
+    clause.iter().any(|y| *y == x)
 }
 
-// Whether a clause of three literals is left out.
-fn is_left_out(x: u32, y: u32, z: u32) -> bool
-    ensures { result ≡ is_left_out (x ∷ y ∷ z ∷ []) }
+// Whether a clause has a net and its inverse.
+fn is_tautology(clause: &[u32]) -> bool
+    ensures { result ≡ list_any (λ x. list_any (λ y. eqb y (negate x)) clause.now) clause.now }
 {
-    if is_true(x, y) {
-        return true;
-    }
-    if is_true(y, z) {
-        return true;
-    }
-    is_true(z, x)
+    clause.iter().any(|x| has(clause, inverse(*x)))
 }
 
-// Puts a literal of a circuit with m nets, unless it is the constant F.
-fn put_literal(x: u32, m: u32, t: EntryTally, kept: &mut [i32]) -> EntryTally
-    requires { (x < 1000000000) × Room t 1 }
-    ensures { Stored m t kept.old (literal_entries x) result kept.new }
+// Whether a clause is left out: it has the constant T, or a net and its inverse.
+#[tactic(auto, using(crate::proofs::Entries::left_out_any))]
+fn is_left_out(clause: &[u32]) -> bool
+    ensures { result ≡ is_left_out clause.now }
 {
-    if x == 0 {
-        return t;
-    }
-    put_entry(kept, t.entries, x % 2 == 1, x / 2);
-    t.add(m, x / 2)
+    has(clause, 1) || is_tautology(clause)
 }
 
-// Puts the clause of three literals, unless it is left out. A clause of fewer has the constant F in their place, which is dropped.
-pub fn put_clause(x: u32, y: u32, z: u32, m: u32, t: EntryTally, kept: &mut [i32]) -> EntryTally
-    requires { (x < 1000000000) × (y < 1000000000) × (z < 1000000000) × Room t 4 }
-    ensures { Stored m t kept.old (clause_entries (x ∷ y ∷ z ∷ [])) result kept.new }
-{
-    if is_left_out(x, y, z) {
-        return t;
-    }
-    let first = put_literal(x, m, t, kept);
-    let second = put_literal(y, m, first, kept);
-    let third = put_literal(z, m, second, kept);
-    put_entry(kept, third.entries, false, 0);
-    third.add(m, 0)
+// Entries of clauses of a circuit with so many nets: their row, as far as it has room for them, and their tally.
+#[derive(Drop)]
+pub struct MadeEntries {
+    pub nets: u32,
+    pub tally: EntryTally,
+    pub row: [i32; MAX_ENTRIES],
 }
 
-// Puts the three clauses of an AND line.
-pub fn put_and(g: And, m: u32, t: EntryTally, kept: &mut [i32]) -> EntryTally
-    requires { (g.output < 1000000000) × (g.left < 1000000000) × (g.right < 1000000000) × Room t 12 }
-    ensures { Stored m t kept.old (made (and_clauses g)) result kept.new }
-{
-    let off = inverse(g.output);
-    let first = put_clause(off, g.left, 0, m, t, kept);
-    let second = put_clause(off, g.right, 0, m, first, kept);
-    put_clause(g.output, inverse(g.left), inverse(g.right), m, second, kept)
+impl MadeEntries {
+    pub fn new(nets: u32) -> MadeEntries
+        ensures { (result.nets ≡ nets) × (result.tally ≡ start) }
+    {
+        MadeEntries {
+            nets,
+            tally: EntryTally::start(),
+            row: [0; MAX_ENTRIES],
+        }
+    }
+
+    // Puts an entry, given by its sign and a magnitude of at most nine digits.
+    fn put(&mut self, minus: bool, magnitude: u32)
+        requires { (magnitude < 1000000000) × Room self.old.tally 1 }
+        ensures { Put self.old (signed minus magnitude ∷ []) self.new }
+    {
+        put_entry(&mut self.row, self.tally.entries, minus, magnitude);
+        self.tally = self.tally.add(self.nets, magnitude);
+    }
+
+    // Puts a literal, unless it is the constant F.
+    fn put_literal(&mut self, x: u32)
+        requires { (x < 1000000000) × Room self.old.tally 1 }
+        ensures { Put self.old (literal_entries x) self.new }
+    {
+        if x != 0 {
+            self.put(x % 2 == 1, x / 2);
+        }
+    }
+
+    // Puts a clause, unless it is left out.
+    #[inline(always)]
+    pub fn put_clause(&mut self, clause: &[u32])
+        requires literals { All (λ x. x < 1000000000) clause.now }
+        requires room { Room self.old.tally (length clause.now + 1) }
+        ensures { Put self.old (clause_entries clause.now) self.new }
+    {
+        if is_left_out(clause) {
+            return;
+        }
+        for x in clause {
+            self.put_literal(*x);
+        }
+        self.put(false, 0);
+    }
+
+    // Puts the three clauses of an AND line.
+    pub fn put_and(&mut self, g: And)
+        requires { Ready g self.old.tally }
+        ensures { Put self.old (made (and_clauses g)) self.new }
+    {
+        let off = inverse(g.output);
+        self.put_clause(&[off, g.left]);
+        self.put_clause(&[off, g.right]);
+        self.put_clause(&[g.output, inverse(g.left), inverse(g.right)]);
+    }
 }

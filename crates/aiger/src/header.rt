@@ -1,14 +1,11 @@
 // The header of an AIGER text.
 
-ghost use Rattle.std.specs.Prelude.{◌≡◌, not};
-ghost use Rattle.std.proofs.Math.Option.{some};
+ghost use Rattle.std.specs.Prelude.{◌≡◌, not, Some};
 ghost use Rattle.aiger.specs.Line.{header_of};
 ghost use Rattle.aiger.specs.Reading.{is_header_bad};
-ghost use Rattle.aiger.specs.Scanning.{as_heading};
 
 use crate::line::read_field;
-use clauses::header::{PartEnd, word_end};
-use clauses::number::Unsigned;
+use clauses::header::word_end;
 
 // M, I, L, O and A; the places of L and O, and that of the second line.
 #[derive(Clone, Copy)]
@@ -18,54 +15,39 @@ pub struct Header {
     pub latches: u32,
     pub outputs: u32,
     pub ands: u32,
-    pub latchplace: usize,
-    pub outputplace: usize,
+    pub latches_at: usize,
+    pub outputs_at: usize,
     pub lines: usize,
 }
 
-#[derive(Clone, Copy)]
-pub enum Heading {
-    Found(Header),
-    Malformed,
-}
-
 // The header, if the text's first line is one.
-pub fn read_header(text: &[u8]) -> Heading
-    ensures { result ≡ as_heading (header_of text.now) }
+#[tactic(auto, using(crate::proofs::Fields::header_start), unfolding(crate::specs::Line::header_of))]
+pub fn read_header(text: &[u8]) -> Option<Header>
+    ensures { result ≡ header_of text.now }
 {
-    let PartEnd::At(_) = word_end(text, 0, b"aag ") else {
-        return Heading::Malformed;
-    };
-    let Unsigned::Value(nets, inputs_at) = read_field(text, 4, b' ') else {
-        return Heading::Malformed;
-    };
-    let Unsigned::Value(inputs, latchplace) = read_field(text, inputs_at, b' ') else {
-        return Heading::Malformed;
-    };
-    let Unsigned::Value(latches, outputplace) = read_field(text, latchplace, b' ') else {
-        return Heading::Malformed;
-    };
-    let Unsigned::Value(outputs, ands_at) = read_field(text, outputplace, b' ') else {
-        return Heading::Malformed;
-    };
-    let Unsigned::Value(ands, lines) = read_field(text, ands_at, b'\n') else {
-        return Heading::Malformed;
-    };
-    Heading::Found(Header {
-        nets: nets,
-        inputs: inputs,
-        latches: latches,
-        outputs: outputs,
-        ands: ands,
-        latchplace: latchplace,
-        outputplace: outputplace,
-        lines: lines,
+    let start = word_end(text, 0, b"aag ")?;
+    let nets = read_field(text, start, b' ')?;
+    let inputs = read_field(text, nets.next, b' ')?;
+    let latches = read_field(text, inputs.next, b' ')?;
+    let outputs = read_field(text, latches.next, b' ')?;
+    let ands = read_field(text, outputs.next, b'\n')?;
+    Some(Header {
+        nets: nets.value,
+        inputs: inputs.value,
+        latches: latches.value,
+        outputs: outputs.value,
+        ands: ands.value,
+        latches_at: inputs.next,
+        outputs_at: latches.next,
+        lines: ands.next,
     })
 }
 
-// Whether there are nets for all inputs, latches and ANDs.
-pub fn has_nets(h: Header) -> bool
-    ensures { result ≡ not (is_header_bad (some h)) }
-{
-    h.inputs as u64 + h.latches as u64 + h.ands as u64 <= h.nets as u64
+impl Header {
+    // Whether there are nets for all inputs, latches and ANDs.
+    pub fn has_nets(self) -> bool
+        ensures { result ≡ not (is_header_bad (Some self)) }
+    {
+        self.inputs as u64 + self.latches as u64 + self.ands as u64 <= self.nets as u64
+    }
 }

@@ -1,44 +1,29 @@
 // The input lines.
 
-ghost use Rattle.std.specs.Prelude.{◌*◌, ◌≤◌, length};
+ghost use Rattle.std.specs.Prelude.{◌≡◌, [], ◌≤◌, length};
+ghost use Rattle.clauses.specs.Limit.{max_text};
 ghost use Rattle.aiger.specs.Scanning.{InputsRead};
-ghost use Rattle.aiger.specs.Tree.{Tree};
 
+use crate::header::Header;
 use crate::line::read_literal;
-use crate::tree::add_new;
-use clauses::number::Unsigned;
+use crate::tree::LiteralTree;
+use clauses::refusal::Refusal;
 
-// The place behind lines, or the start of the first one that is not as it should be.
-#[derive(Clone, Copy)]
-pub enum LinesEnd {
-    At(usize),
-    Faulty(usize),
-}
-
-// Reads count input lines from a place on, of a circuit with m nets; their literals become the first keys.
-pub fn read_inputs(
-    text: &[u8],
-    from: usize,
-    count: u32,
-    m: u32,
-    keys: &mut [u32],
-    links: &mut [u16],
-) -> LinesEnd
-    requires tree { Tree 0 keys.old links.old }
-    requires from_in_bounds { (from ≤ length text.now) × (length text.now ≤ 2 * length keys.old) }
-    ensures { InputsRead m text.now count from result keys.new links.new }
+// Reads the input lines, whose literals become those of the tree; the place behind them.
+pub fn read_inputs(text: &[u8], header: Header, tree: &mut LiteralTree) -> Result<usize, Refusal>
+    requires empty { tree.old ≡ [] }
+    requires lines_in_bounds { (header.lines ≤ length text.now) × (length text.now ≤ max_text) }
+    ensures { InputsRead header.nets text.now header.inputs header.lines result tree.new }
 {
-    let mut at = from;
-    let mut i: usize = 0;
-    while i < count as usize {
-        let Unsigned::Value(x, next) = read_literal(text, at, b'\n', m) else {
-            return LinesEnd::Faulty(at);
+    let mut at = header.lines;
+    for _ in 0..header.inputs {
+        let Some(input) = read_literal(text, at, b'\n', header.nets) else {
+            return Err(Refusal::AigerLine(at));
         };
-        if !add_new(x, i, keys, links) {
-            return LinesEnd::Faulty(at);
+        if !tree.add_new(input.value) {
+            return Err(Refusal::AigerLine(at));
         }
-        at = next;
-        i += 1;
+        at = input.next;
     }
-    LinesEnd::At(at)
+    Ok(at)
 }

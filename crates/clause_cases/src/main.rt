@@ -8,140 +8,130 @@ use std::io;
 use std::io::Write;
 use support::input::read_full;
 
-fn show<W: Write>(out: &mut W, bytes: &[u8]) -> io::Result<()> {
-    out.write_all(bytes)
-}
-
-fn pair<W: Write>(out: &mut W, name: &[u8], codes: &[u32], a: usize, b: usize) -> io::Result<()> {
-    show(out, name)?;
-    if is_same_set(codes, a, b) {
-        show(out, b": equal\n")
+fn pair<W: Write>(out: &mut W, name: &str, codes: &[u32], a: usize, b: usize) -> io::Result<()> {
+    let equal = if is_same_set(codes, a, b) {
+        "equal"
     } else {
-        show(out, b": different\n")
-    }
+        "different"
+    };
+    writeln!(out, "{name}: {equal}")
 }
 
 // Which literals the two have.
 fn literal_cases<W: Write>(out: &mut W) -> io::Result<()> {
-    pair(out, b"the same order", &[2, 5, 6, 0, 2, 5, 6, 0], 0, 4)?;
-    pair(out, b"turned round", &[2, 5, 6, 0, 6, 5, 2, 0], 0, 4)?;
-    pair(out, b"another order", &[2, 5, 6, 8, 0, 6, 2, 8, 5, 0], 0, 5)?;
+    pair(out, "the same order", &[2, 5, 6, 0, 2, 5, 6, 0], 0, 4)?;
+    pair(out, "turned round", &[2, 5, 6, 0, 6, 5, 2, 0], 0, 4)?;
+    pair(out, "another order", &[2, 5, 6, 8, 0, 6, 2, 8, 5, 0], 0, 5)?;
     pair(
         out,
-        b"a literal that only the first has",
+        "a literal that only the first has",
         &[2, 5, 6, 0, 5, 2, 0],
         0,
         4,
     )?;
     pair(
         out,
-        b"a literal that only the second has",
+        "a literal that only the second has",
         &[5, 2, 0, 2, 5, 6, 0],
         0,
         3,
     )?;
     pair(
         out,
-        b"one literal that differs",
+        "one literal that differs",
         &[2, 5, 6, 0, 6, 5, 8, 0],
         0,
         4,
     )?;
     pair(
         out,
-        b"the same nets with another sign",
+        "the same nets with another sign",
         &[2, 5, 6, 0, 2, 4, 6, 0],
         0,
         4,
     )?;
-    pair(out, b"a repeated literal", &[2, 5, 2, 0, 5, 2, 0], 0, 4)?;
+    pair(out, "a repeated literal", &[2, 5, 2, 0, 5, 2, 0], 0, 4)?;
     pair(
         out,
-        b"other literals repeated",
+        "other literals repeated",
         &[2, 5, 2, 0, 5, 2, 5, 0],
         0,
         4,
     )?;
     pair(
         out,
-        b"as many literals, of which one is repeated",
+        "as many literals, of which one is repeated",
         &[2, 5, 2, 0, 5, 2, 6, 0],
         0,
         4,
     )?;
-    pair(out, b"a net and its inverse", &[2, 3, 0, 3, 2, 0], 0, 3)
+    pair(out, "a net and its inverse", &[2, 3, 0, 3, 2, 0], 0, 3)
 }
 
 // Where the two start and end.
 fn place_cases<W: Write>(out: &mut W) -> io::Result<()> {
-    pair(out, b"a clause and itself", &[2, 5, 6, 0], 0, 0)?;
+    pair(out, "a clause and itself", &[2, 5, 6, 0], 0, 0)?;
     pair(
         out,
-        b"the second before the first",
+        "the second before the first",
         &[2, 5, 6, 0, 6, 2, 5, 0],
         4,
         0,
     )?;
     pair(
         out,
-        b"clauses in the middle of others",
+        "clauses in the middle of others",
         &[8, 2, 5, 0, 6, 5, 2, 0],
         1,
         5,
     )?;
-    pair(out, b"a part of a clause", &[2, 5, 6, 0], 0, 1)?;
+    pair(out, "a part of a clause", &[2, 5, 6, 0], 0, 1)?;
     pair(
         out,
-        b"a literal that stands before the second",
+        "a literal that stands before the second",
         &[2, 8, 0, 8, 2, 0],
         0,
         4,
     )?;
-    pair(out, b"no 0 at the row's end", &[2, 5, 0, 5, 2], 0, 3)?;
-    pair(out, b"two empty clauses", &[2, 0, 0, 5, 0], 1, 2)?;
+    pair(out, "no 0 at the row's end", &[2, 5, 0, 5, 2], 0, 3)?;
+    pair(out, "two empty clauses", &[2, 0, 0, 5, 0], 1, 2)?;
     pair(
         out,
-        b"an empty clause and another one",
+        "an empty clause and another one",
         &[2, 0, 0, 5, 0],
         2,
         3,
     )?;
     pair(
         out,
-        b"an empty clause before one with the first's literals",
+        "an empty clause before one with the first's literals",
         &[2, 5, 0, 0, 2, 5, 0],
         0,
         3,
     )?;
     pair(
         out,
-        b"an empty clause and one past the row's end",
+        "an empty clause and one past the row's end",
         &[2, 0, 0],
         2,
         3,
     )?;
+    pair(out, "a clause and one past the row's end", &[2, 5, 0], 0, 3)?;
     pair(
         out,
-        b"a clause and one past the row's end",
-        &[2, 5, 0],
-        0,
-        3,
-    )?;
-    pair(
-        out,
-        b"two clauses past the row's end",
+        "two clauses past the row's end",
         &[2, 5, 0],
         3,
         18446744073709551615,
     )?;
     pair(
         out,
-        b"the largest start and a clause",
+        "the largest start and a clause",
         &[2, 5, 0],
         18446744073709551615,
         0,
     )?;
-    pair(out, b"an empty row", &[], 0, 0)
+    pair(out, "an empty row", &[], 0, 0)
 }
 
 // How many literals a wide clause has, and how many entries with its 0.
@@ -162,17 +152,10 @@ const MIXED: usize = 4 * ENTRIES;
 
 // Puts a wide clause at a place: the literals in an order that a first one and a step give.
 fn put_clause(row: &mut [u32], at: usize, first: usize, step: usize) {
-    let mut next = at;
     let mut k = first;
-    let mut i = 0;
-    while i < WIDTH {
-        if row.len() <= next {
-            return;
-        }
-        row[next] = (k % WIDTH + 2) as u32;
+    for code in row.iter_mut().skip(at).take(WIDTH) {
+        *code = (k % WIDTH + 2) as u32;
         k = k % WIDTH + step % WIDTH;
-        next += 1;
-        i += 1;
     }
 }
 
@@ -189,14 +172,12 @@ fn start_of(order: u8) -> usize {
 
 // Compares the first clause with the one that each byte stands for.
 fn compare_wide<W: Write>(out: &mut W, codes: &[u32], orders: &[u8]) -> io::Result<()> {
-    let mut i = 0;
-    while i < orders.len() {
-        if is_same_set(codes, 0, start_of(orders[i])) {
-            show(out, b"=")?;
+    for order in orders {
+        if is_same_set(codes, 0, start_of(*order)) {
+            write!(out, "=")?;
         } else {
-            show(out, b"/")?;
+            write!(out, "/")?;
         }
-        i += 1;
     }
     Ok(())
 }
@@ -209,9 +190,9 @@ fn wide_cases<W: Write>(out: &mut W, orders: &[u8]) -> io::Result<()> {
     put_clause(&mut row, TURNED_ROUND_BUT_ONE, WIDTH - 1, WIDTH - 1);
     row[TURNED_ROUND_BUT_ONE] = 1;
     put_clause(&mut row, MIXED, 0, 4999);
-    show(out, b"clauses of 8,000 literals: ")?;
+    write!(out, "clauses of 8,000 literals: ")?;
     compare_wide(out, &row, orders)?;
-    show(out, b"\n")
+    writeln!(out)
 }
 
 fn main(rt: HostRuntime) -> io::Result<()> {

@@ -7,22 +7,21 @@ use native.Mathlib.Omega.{arith}
 use lib.IntN.{ℤ}
 use borrow.Author.Tests.{ltb-false}
 use lib.ListN.{length, drop, length-append}
+use Rattle.std.specs.Prelude.{Ok}
 use Rattle.clauses.specs.Printing as Printing
 use Rattle.clauses.specs.Printing.{list_text, printing_tests, printing, written}
 use Rattle.clauses.specs.Reading as Reading
 use Rattle.clauses.specs.Reading.{Sizes, numbers_tests, body_tests, reading_tests, reading, accepted}
 use Rattle.clauses.specs.Limit.{max_nets}
 use Rattle.clauses.specs.declared.refusal.Refusal.{Refusal}
-use Rattle.clauses.specs.declared.printing.Printing.TheVariants.{Written}
 use Rattle.clauses.specs.declared.reading.ListSize.{ListSize}
-use Rattle.clauses.specs.declared.reading.Reading.TheVariants.{Accepted}
 use Rattle.clauses.proofs.Deciding.{decide_either, decide_has}
 
 -- Reading
 
 -- the entries that reading counts lie within the row, and V within its limit
 Within : Reading.Outcome → Type 0
-Within o = (s : ListSize) → o.result ≡ Accepted s → (s.entries ≤ length o.row) × (s.nets ≤ max_nets)
+Within o = (s : ListSize) → o.result ≡ Ok s → (s.entries ≤ length o.row) × (s.nets ≤ max_nets)
 
 module _ (row : List ℤ) where
   refused_within : (r : Refusal) → Within (Reading.refused row r)
@@ -36,7 +35,7 @@ module _ (row : List ℤ) where
       let nets : s.nets ≡ t.nets = cc in
       (omega (arith, same, length-append numbers (drop (length numbers) row)), omega (arith, nets))
 
-  pub read_within : (text : List ℕ) (s : ListSize) → (reading text row).result ≡ Accepted s
+  pub read_within : (text : List ℕ) (s : ListSize) → (reading text row).result ≡ Ok s
       → (s.entries ≤ length (reading text row).row) × (s.nets ≤ max_nets)
   unfolding reading Within reading_tests body_tests numbers_tests
   read_within text =
@@ -47,7 +46,7 @@ module _ (row : List ℤ) where
 
 module _ (buffer : List ℕ) (n : ℕ) where
   BytesWithin : Printing.Outcome → Type 0
-  BytesWithin o = o.result ≡ Written n → n ≤ length o.buffer
+  BytesWithin o = o.result ≡ Ok n → n ≤ length o.buffer
 
   refuses_within : (r : Refusal) → BytesWithin (Printing.refused buffer r)
   unfolding BytesWithin Printing.refused
@@ -60,7 +59,7 @@ module _ (buffer : List ℕ) (n : ℕ) where
       omega (arith, same, length-append text (drop (length text) buffer))
 
   -- the bytes that printing counts lie within the buffer
-  pub print_within : (v c : ℕ) (row : List ℤ) → (printing v c row buffer).result ≡ Written n → n ≤ length (printing v c row buffer).buffer
+  pub print_within : (v c : ℕ) (row : List ℤ) → (printing v c row buffer).result ≡ Ok n → n ≤ length (printing v c row buffer).buffer
   unfolding printing BytesWithin
   print_within v c row =
       decide_either (Printing.refused buffer) (written buffer (list_text v c row)) BytesWithin refuses_within

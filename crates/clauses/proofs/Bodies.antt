@@ -3,22 +3,22 @@
 use mathlib.Core.Path.{◌≡◌, refl, sym, ◌∙◌, ap}
 use mathlib.Core.Bool.{Bool, true, false, true≢false}
 use mathlib.Core.List.{List, [], ◌∷◌, ◌++◌, append-nil}
-use mathlib.Core.Option.{Option, none, some}
+use Rattle.std.specs.Prelude.{None, Some}
 use Prim.Native.Nat.{ℕ, zero, suc, ◌+◌, ◌-◌, ◌≤◌, ◌<◌}
 use native.Mathlib.Decide.{dec_lt}
+use native.Mathlib.Nat.{add-zero}
 use native.Mathlib.Numerals.{add-one}
 use native.Mathlib.Omega.{arith}
 use borrow.Author.Tests.{eq-eqb, eqb-true, not-true, not-false}
 use borrow.Table.Steps.{cases}
 use lib.Dec.{eqb}
-use lib.ListN.{length, get_or, take, drop, drop_of_length-le}
+use lib.ListN.{length, get_or, drop, drop_of_length-le, length-drop}
 use lib.Seq.{drop-cons, drop-drop, get_or-drop}
 use Rattle.clauses.specs.Bytes.{lf, letter_c, is_blank, every, front, behind, Stretch, split}
 use Rattle.clauses.specs.Reading.{lines, is_comment, is_passed, Sizes, header_line, as_header, heading, words_of}
 use Rattle.clauses.specs.Reading.Heading.{sized, malformed}
-use Rattle.clauses.specs.Scanning.{is_in_word, starts_line, words_within, words_from, StartsWord, as_header_line}
-use Rattle.clauses.specs.declared.header.HeaderLine.TheVariants as L
-use Rattle.clauses.proofs.Runs.{run_goes_on, run_byte, run_part}
+use Rattle.clauses.specs.Scanning.{is_in_word, starts_line, words_within, words_from, StartsWord}
+use Rattle.clauses.proofs.Runs.{front_length, run_goes_on, run_byte, run_behind, run_low, run_part, run_stopped}
 use Rattle.clauses.proofs.Splitting.{following, lacks, every_front, front_behind, behind_head, following_at, following_none}
 use Rattle.clauses.proofs.LinesAndWords.{is_lf, lf_blank, lines_first, words_in_line, words_of_comment, words_of_lines, words_in_line_none, words_in_line_lf, words_in_line_blank, words_in_line_word}
 
@@ -70,17 +70,13 @@ module _ (text : List ℕ) (i : ℕ) where
 
 -- The run of a line's bytes from place i on ends at a place.
 module _ (text : List ℕ) (i end : ℕ) (e : end ≡ i + length (front (lacks is_lf) (drop i text))) where
-  rest_is : behind (lacks is_lf) (drop i text) ≡ drop end text
-  unfolding behind
-  rest_is = rw (drop-drop, ← e)
-
   line_is : drop i text ≡ front (lacks is_lf) (drop i text) ++ drop end text
-  line_is = sym (rw rest_is at (front_behind (lacks is_lf) (drop i text)))
+  line_is = sym (rw (run_behind (lacks is_lf) text i end e) at (front_behind (lacks is_lf) (drop i text)))
 
   -- the lines behind it
   module _ (k : end < length text) where
     lf_there : is_lf (get_or text end 0) ≡ true
-    lf_there = not-false _ (behind_head (lacks is_lf) (drop i text) (get_or text end 0) (drop (suc end) text) (rest_is ∙ drop-cons text end 0 k))
+    lf_there = not-false _ (run_stopped (lacks is_lf) text i end e k)
 
     following_lines : following is_lf i (drop i text) ≡ lines (suc end) (drop (suc end) text)
     unfolding lines
@@ -161,6 +157,17 @@ module _ (text : List ℕ) (i : ℕ) (h : i < length text) where
           let b : is_in_word (get_or text (i + length w - 1) 0) ≡ true = rw p at (run_byte is_in_word text (length w - 1) i (omega (arith, some_byte))) in
           line_start_behind text (i + length w) (omega (arith, some_byte)) ∙ cases (is_lf (get_or text (i + length w - 1) 0)) (λ t. absurd (true≢false (sym (lf_blank _ t) ∙ not-true _ b))) (λ t. t)
 
+-- blanks are passed over
+pub words_behind_blanks : (text : List ℕ) (i end : ℕ) → end ≡ i + length (front is_blank (drop i text)) → words_from text i ≡ words_from text end
+words_behind_blanks text i end e = rw e (go (length (front is_blank (drop i text))) (omega arith))
+  where
+    go : (k : ℕ) → k ≤ length (front is_blank (drop i text)) → words_from text i ≡ words_from text (i + k)
+    go zero h = rw add-zero
+    go (suc k) h =
+        let inside : i + k < length text = omega (arith, front_length is_blank (drop i text), length-drop i text) in
+        let next : i + k + 1 ≡ i + suc k = omega arith in
+        go k (omega arith) ∙ words_from_blank text (i + k) inside (run_byte is_blank text k i (omega arith)) ∙ ap (words_from text) next
+
 -- The line from place i on, in the search for the header
 
 module _ (n : ℕ) (text : List ℕ) (i : ℕ) where
@@ -171,11 +178,11 @@ module _ (n : ℕ) (text : List ℕ) (i : ℕ) where
   unfolding heading as_header
   heading_passed e = rw (lines_first i (drop i text), e)
 
-  pub heading_malformed : is_passed Line ≡ false → header_line Line ≡ none → heading n (lines i (drop i text)) ≡ malformed i
+  pub heading_malformed : is_passed Line ≡ false → header_line Line ≡ None → heading n (lines i (drop i text)) ≡ malformed i
   unfolding heading as_header
   heading_malformed e h = rw (lines_first i (drop i text), e, as_header, h)
 
-  pub heading_sized : (s : Sizes) → is_passed Line ≡ false → header_line Line ≡ some s → heading n (lines i (drop i text)) ≡ sized s (following is_lf i (drop i text))
+  pub heading_sized : (s : Sizes) → is_passed Line ≡ false → header_line Line ≡ Some s → heading n (lines i (drop i text)) ≡ sized s (following is_lf i (drop i text))
   unfolding heading as_header
   heading_sized s e h = rw (lines_first i (drop i text), e, as_header, h)
 
@@ -189,21 +196,16 @@ unfolding is_passed is_comment every
 passed_empty [] h = refl
 passed_empty (b ∷ l) h = absurd (omega arith)
 
-pub header_none : (o : Option Sizes) → as_header_line o ≡ L.Malformed → o ≡ none
-header_none none e = refl
-header_none (some s) e = let z : ◌≡◌ {A = ℕ} 0 1 = cc in absurd (omega arith)
-
-pub header_some : (o : Option Sizes) (v c : ℕ) → as_header_line o ≡ L.Sized v c → o ≡ some (record { nets = v; clauses = c })
-header_some none v c e = let z : ◌≡◌ {A = ℕ} 0 1 = cc in absurd (omega arith)
-header_some (some s) v c e = let p : s.nets ≡ v = cc in let q : s.clauses ≡ c = cc in rw (← p, ← q)
-
--- the line as a part of the text
-pub line_part : (text : List ℕ) (i end : ℕ) → end ≡ i + length (front (lacks is_lf) (drop i text)) → take (end - i) (drop i text) ≡ front (lacks is_lf) (drop i text)
-line_part text i end e =
-    let n : end - i ≡ length (front (lacks is_lf) (drop i text)) = omega arith in
-    rw n (run_part (lacks is_lf) text i)
-
 -- a whole line
 pub whole_line : (text : List ℕ) (i : ℕ) → starts_line text i ≡ true → words_from text i ≡ words_of (lines i (drop i text))
 unfolding words_from
 whole_line text i e = rw e
+
+-- where a line starts
+pub ruleset line_starts = (line_start_first, line_start_behind)
+
+-- blanks and comment lines before a word
+pub ruleset next_words = (line_comment, words_behind_blanks, words_behind_line, run_goes_on, run_low, run_stopped)
+
+-- the search for the header, line by line
+pub ruleset header_lines = (passed_empty, heading_behind, heading_malformed, heading_passed, heading_sized, words_behind_line, heading_missing, front_length, run_part)

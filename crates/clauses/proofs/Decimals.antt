@@ -57,3 +57,6 @@ length_digit n h = rw (decimal_digit n h)
 
 pub length_more : (n : ℕ) → 10 ≤ n → n < 18446744073709551616 → length (decimal n) ≡ length (decimal (n / 10)) + 1
 length_more n h k = rw (decimal_more n h k) (length-append (decimal (n / 10)) (last n))
+
+-- the length in decimal
+pub ruleset lengths = (length_digit, length_more, decimal_length)

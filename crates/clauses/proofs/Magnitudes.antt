@@ -3,7 +3,7 @@
 use mathlib.Core.Path.{◌≡◌, refl, sym}
 use mathlib.Core.Bool.{Bool, true, false, cond, not, ◌&&◌, ◌||◌, and-eq-true_iff}
 use mathlib.Core.List.{List, [], ◌∷◌}
-use mathlib.Core.Option.{none, some}
+use Rattle.std.specs.Prelude.{None, Some}
 use Prim.Native.Nat.{ℕ, zero, suc, ◌+◌, ◌-◌, ◌*◌, ◌^◌, ◌≤◌, ◌<◌}
 use native.Mathlib.Nat.{mul-le-mul_right, mul_assoc, pow-le-pow_right}
 use native.Mathlib.Omega.{arith, pow_step}
@@ -15,8 +15,7 @@ use lib.ListN.{length, get_or}
 use Rattle.clauses.specs.Bytes.{nought, is_digit, every, front}
 use Rattle.clauses.specs.Number.{value, is_positive, is_zero, signed, unsigned, number}
 use Rattle.clauses.specs.Scanning.{is_in_word, number_at}
-use Rattle.clauses.specs.declared.text.Cursor.{Cursor}
-use Rattle.clauses.specs.declared.number.Number.TheVariants as N
+use Rattle.clauses.specs.declared.number.Number.{Number}
 use Rattle.clauses.proofs.Digits.{digit_byte}
 use Rattle.clauses.proofs.Splitting.{every_head, every_tail}
 use Rattle.clauses.proofs.Words.{word_number, zero_value}
@@ -46,7 +45,7 @@ unsigned_value_small : (w : List ℕ) → (is_zero w || is_positive w) ≡ true 
 unsigned_value_small w h = cases (is_zero w) (λ t. omega (arith, zero_value w t)) (λ t. positive_small w (rw t at h))
 
 -- a number that carries no minus
-pub unsigned_small : (w : List ℕ) (n : ℕ) → unsigned w ≡ some n → n < 1000000000
+pub unsigned_small : (w : List ℕ) (n : ℕ) → unsigned w ≡ Some n → n < 1000000000
 unfolding unsigned
 unsigned_small w n e = cases (is_zero w || is_positive w) (λ t. read t) (λ t. let z = rw t at e in let q : ◌≡◌ {A = ℕ} 0 1 = cc in absurd (omega arith))
   where
@@ -54,7 +53,7 @@ unsigned_small w n e = cases (is_zero w || is_positive w) (λ t. read t) (λ t. 
     read t = let z = rw t at e in let same : value 0 w ≡ n = cc in rw (← same) (unsigned_value_small w t)
 
 -- the magnitude of a word
-small_of : (b : Bool) (minus : Bool) (n : ℕ) (z : ℤ) → (b ≡ true → n < 1000000000) → cond b (some (signed minus n)) none ≡ some z → nat_abs z < 1000000000
+small_of : (b : Bool) (minus : Bool) (n : ℕ) (z : ℤ) → (b ≡ true → n < 1000000000) → cond b (Some (signed minus n)) None ≡ Some z → nat_abs z < 1000000000
 small_of true minus n z h e = let s : signed minus n ≡ z = cc in rw (← s) (sign minus n (h refl))
   where
     sign : (minus : Bool) (n : ℕ) → n < 1000000000 → nat_abs (signed minus n) < 1000000000
@@ -63,7 +62,7 @@ small_of true minus n z h e = let s : signed minus n ≡ z = cc in rw (← s) (s
     sign true (suc n) k = k
 small_of false minus n z h e = let q : ◌≡◌ {A = ℕ} 0 1 = cc in absurd (omega arith)
 
-number_small : (w : List ℕ) (z : ℤ) → number w ≡ some z → nat_abs z < 1000000000
+number_small : (w : List ℕ) (z : ℤ) → number w ≡ Some z → nat_abs z < 1000000000
 unfolding number
 number_small [] z e = let q : ◌≡◌ {A = ℕ} 0 1 = cc in absurd (omega arith)
 number_small (b ∷ w) z e =
@@ -72,7 +71,7 @@ number_small (b ∷ w) z e =
     (λ t. small_of (is_zero (b ∷ w) || is_positive (b ∷ w)) false (value 0 (b ∷ w)) z (unsigned_value_small (b ∷ w)) (rw t at e))
 
 -- the magnitude that is read at a place
-pub magnitude_small : (l : List ℕ) (p : ℕ) (minus : Bool) (m : ℕ) (next : Cursor) → number_at l p ≡ N.Value minus m next → m < 1000000000
-magnitude_small l p minus m next e =
-    let read = word_number l p minus m next e in
-    rw read.magnitude at (number_small (front is_in_word l) (signed minus m) read.number_is)
+pub magnitude_small : (l : List ℕ) (p : ℕ) (n : Number) → number_at l p ≡ Some n → n.magnitude < 1000000000
+magnitude_small l p n e =
+    let read = word_number l p n e in
+    rw read.magnitude at (number_small (front is_in_word l) (signed n.minus n.magnitude) read.number_is)

@@ -3,7 +3,7 @@
 use mathlib.Core.Path.{◌≡◌, refl, sym, ◌∙◌}
 use mathlib.Core.Bool.{Bool, true, false, cond, ◌||◌, and-eq-true_iff, or-true}
 use mathlib.Core.List.{List, [], ◌∷◌, ◌++◌}
-use mathlib.Core.Option.{none, some}
+use Rattle.std.specs.Prelude.{None, Some}
 use Prim.Native.Nat.{ℕ, zero, suc, ◌+◌, ◌-◌, ◌*◌, ◌/◌, ◌%◌, ◌^◌, ◌≤◌, ◌<◌}
 use native.Mathlib.Nat.{pow-suc}
 use native.Mathlib.Omega.{arith}
@@ -76,23 +76,23 @@ unfolding is_positive
 numeral_positive n w r p h =
     simp (r.figures, le-leb 1 (length w) r.some_figure, le-leb (length w) 9 (r.few_figures 8 h), ne_eqb (get_or w 0 0) nought (r.no_leading_zero p))
 
-pub unsigned_decimal : (n : ℕ) → n < 10 ^ 9 → unsigned (decimal n) ≡ some n
+pub unsigned_decimal : (n : ℕ) → n < 10 ^ 9 → unsigned (decimal n) ≡ Some n
 unfolding unsigned decimal digits value is_zero is_positive
 unsigned_decimal zero h = refl
 unsigned_decimal (suc n) h =
     let r : Numeral (suc n) (decimal (suc n)) = decimal_numeral (suc n) (omega arith) in
     simp (numeral_positive (suc n) (decimal (suc n)) r (omega arith) h, or-true, r.worth)
 
-same : (t : Bool) (m n : ℕ) → cond t (some m) none ≡ some n → cond t (some (pos m)) none ≡ some (pos n)
+same : (t : Bool) (m n : ℕ) → cond t (Some m) None ≡ Some n → cond t (Some (pos m)) None ≡ Some (pos n)
 same true m n e = cc
 same false m n e = cc
 
-pub number_unsigned : (w : List ℕ) (n : ℕ) → every is_digit w ≡ true → unsigned w ≡ some n → number w ≡ some (pos n)
+pub number_unsigned : (w : List ℕ) (n : ℕ) → every is_digit w ≡ true → unsigned w ≡ Some n → number w ≡ Some (pos n)
 unfolding unsigned number is_zero is_positive every
 number_unsigned [] n d e = same false 0 n e
 number_unsigned (b ∷ w) n d e = rw (ne_eqb b minus (λ q. omega (arith, (digit_byte b (every_head is_digit b w d)).low))) (same (is_zero (b ∷ w) || is_positive (b ∷ w)) (value 0 (b ∷ w)) n e)
 
-pub number_decimal : (z : ℤ) → nat_abs z < 10 ^ 9 → number (signed_decimal z) ≡ some z
+pub number_decimal : (z : ℤ) → nat_abs z < 10 ^ 9 → number (signed_decimal z) ≡ Some z
 unfolding signed_decimal number
 number_decimal (pos n) h = number_unsigned (decimal n) n (decimal_numeral n (omega arith)).figures (unsigned_decimal n h)
 number_decimal (negsuc n) h =

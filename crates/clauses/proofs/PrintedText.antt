@@ -3,7 +3,7 @@
 use mathlib.Core.Path.{◌≡◌, refl, ap, ◌∙◌}
 use mathlib.Core.Bool.{true, false, cond}
 use mathlib.Core.List.{List, [], ◌∷◌, ◌++◌, append_assoc}
-use mathlib.Core.Option.{some}
+use Rattle.std.specs.Prelude.{Some}
 use Prim.Native.Nat.{ℕ, zero, suc, ◌+◌, ◌^◌, ◌≤◌, ◌<◌}
 use native.Mathlib.Omega.{arith}
 use borrow.Author.Tests.{ltb-false, ne_eqb}
@@ -15,7 +15,7 @@ use lib.Seq.{append_snoc}
 use Rattle.clauses.specs.Bytes.{lf, minus, letter_c, space, is_blank, is_gap, is_digit, every}
 use Rattle.clauses.specs.Number.{digits, decimal, signed_decimal}
 use Rattle.clauses.specs.Printing.{header_text, entry_text, row_text, list_text}
-use Rattle.clauses.specs.Reading.{lines, is_comment, words_of, after, after_gap, then, after_format, sizes, header_line, is_passed, as_header, heading, body, prepend}
+use Rattle.clauses.specs.Reading.{lines, is_comment, words_of, after, after_gap, after_format, sizes, header_line, is_passed, as_header, heading, body, prepend}
 use Rattle.clauses.specs.Reading.Heading.{sized}
 use Rattle.clauses.specs.Reading.Body.{entries}
 use Rattle.clauses.specs.Refusal.{first_over}
@@ -54,13 +54,13 @@ module _ (n : ℕ) (h : n < 10 ^ 9) where
   decimal_then : (r : List ℕ) → get_or (decimal n ++ r) 0 0 ≡ get_or (decimal n) 0 0
   decimal_then r = get_or-append (decimal n) r 0 0 numeral.some_figure
 
-after_space : (l : List ℕ) → is_gap (get_or l 0 0) ≡ false → after_gap (space ∷ l) ≡ some l
+after_space : (l : List ℕ) → is_gap (get_or l 0 0) ≡ false → after_gap (space ∷ l) ≡ Some l
 unfolding after_gap is_gap
 after_space l e = rw (behind_true is_gap space l refl, behind_none is_gap l e)
 
 module _ (v c : ℕ) (hv : v < 10 ^ 9) (hc : c < 10 ^ 9) where
-  headline_reads : header_line (headline v c) ≡ some (record { nets = v; clauses = c })
-  unfolding header_line headline after then is_gap is_digit every after_format sizes
+  headline_reads : header_line (headline v c) ≡ Some (record { nets = v; clauses = c })
+  unfolding header_line headline after is_gap is_digit every after_format sizes
   headline_reads =
       rw (
         after_space (99 ∷ 110 ∷ 102 ∷ space ∷ (decimal v ++ (space ∷ decimal c))) refl,

@@ -10,6 +10,7 @@ use borrow.Table.Steps.{cases}
 use lib.Dec.{ltb}
 use lib.IntN.{ℤ}
 use lib.ListN.{length}
+use Rattle.std.specs.Prelude.{Err}
 use Rattle.clauses.specs.Bytes.{Stretch}
 use Rattle.clauses.specs.Limit.{max_text}
 use Rattle.clauses.specs.Lists.{any, all}
@@ -19,14 +20,13 @@ use Rattle.clauses.specs.Reading.{Sizes, Heading, words_of, Body, body, Outcome,
 use Rattle.clauses.specs.Scanning.{read_body}
 use Rattle.clauses.specs.declared.refusal.Refusal.{Refusal}
 use Rattle.clauses.specs.declared.refusal.Refusal.TheVariants.{TextTooLong, Header, Word}
-use Rattle.clauses.specs.declared.reading.Reading.TheVariants.{Refused}
 use Rattle.clauses.proofs.Deciding.{is_among, decide_among}
 use Rattle.clauses.proofs.ReadingTests.{body_malformed, body_numbers, behind_room, text_long, heading_malformed, heading_sized}
 use Rattle.clauses.proofs.WordCounts.{numbers_few}
 
 -- a refusal has one of these numbers
 unfoldable pub Among : List ℕ → Outcome → Type 0
-Among ns o = (r : Refusal) → o.result ≡ Refused r → mem (number_of r) ns ≡ true
+Among ns o = (r : Refusal) → o.result ≡ Err r → mem (number_of r) ns ≡ true
 
 module _ (ns : List ℕ) (row : List ℤ) where
   pub refused_among : (r : Refusal) → mem (number_of r) ns ≡ true → Among ns (refused row r)
@@ -53,7 +53,7 @@ module _ (row : List ℤ) (s : Sizes) where
   unfolding any mem
   malformed_among p = rw (body_malformed row s (Body.malformed p) p refl) (refused_among reading_numbers row (Word p) refl)
 
-pub reading_refusals : (text : List ℕ) (row : List ℤ) → 32763 ≤ length row → (r : Refusal) → (reading text row).result ≡ Refused r → mem (number_of r) reading_numbers ≡ true
+pub reading_refusals : (text : List ℕ) (row : List ℤ) → 32763 ≤ length row → (r : Refusal) → (reading text row).result ≡ Err r → mem (number_of r) reading_numbers ≡ true
 unfolding Among any mem
 reading_refusals text row room =
     cases (ltb max_text (length text)) (λ t. rw (text_long text row (ltb-true max_text (length text) t)) (refused_among reading_numbers row TextTooLong refl))

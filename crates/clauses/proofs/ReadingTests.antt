@@ -2,7 +2,7 @@
 -- Assumes nothing.
 use mathlib.Core.Path.{◌≡◌, refl, sym, ◌∙◌, ap, subst⁻¹}
 use mathlib.Core.List.{List, [], ◌∷◌, ◌++◌, map}
-use mathlib.Core.Option.{Option, none, some}
+use Rattle.std.specs.Prelude.{Option, None, Some, Result, Ok, Err}
 use Prim.Native.Nat.{ℕ, ◌≤◌, ◌<◌}
 use native.Mathlib.Omega.{arith}
 use borrow.Author.Tests.{lt-ltb, le-ltb}
@@ -17,20 +17,16 @@ use Rattle.clauses.specs.Check.{check_sizes, check_entries}
 use Rattle.clauses.specs.Reading.{Sizes, Heading, sized, malformed, header_malformed, words_of, Body, prepend, body, Outcome, refused, accepted, is_malformed, malformed_at, has_bad_word, bad_word_at, sizes_of, body_of, entries_of, heading_of, numbers_tests, body_tests, reading_tests, reading}
 use Rattle.clauses.specs.Scanning.{words_from, HeaderFound, scanned, numbers_of, read_body, read_numbers}
 use Rattle.clauses.specs.declared.refusal.Refusal.{Refusal}
-use Rattle.clauses.specs.declared.refusal.Refusal.TheVariants.{TextTooLong, Header, Word, RowTooShort}
-use Rattle.clauses.specs.declared.header.Header.TheVariants as H
+use Rattle.clauses.specs.declared.header.Header.{Header}
+use Rattle.clauses.specs.declared.refusal.Refusal.TheVariants.{TextTooLong, Header as HeaderRefusal, Word, RowTooShort}
 use Rattle.clauses.specs.declared.tally.EntryTally.{EntryTally}
-use Rattle.clauses.specs.declared.checks.Check.TheVariants as K
-use Rattle.clauses.specs.declared.body.Scan.{Scan}
-use Rattle.clauses.specs.declared.body.Scan.TheVariants as C
-use Rattle.clauses.specs.declared.reading.Reading.TheVariants as R
 use Rattle.clauses.proofs.Tallies.{tally_all}
 use Rattle.clauses.proofs.Tests.{sizes_passed, sizes_refused, entries_passed, entries_refused}
 
 -- what the scan of a body gives
-scan_of : ℕ → EntryTally → Body → Scan
-scan_of v t (Body.entries numbers) = C.Numbers (tallied v t (map nat_abs numbers))
-scan_of v t (Body.malformed p) = C.Refused (Word p)
+scan_of : ℕ → EntryTally → Body → Result EntryTally Refusal
+scan_of v t (Body.entries numbers) = Ok (tallied v t (map nat_abs numbers))
+scan_of v t (Body.malformed p) = Err (Word p)
 
 scan_prepend : (v : ℕ) (t : EntryTally) (z : ℤ) (b : Body) → scan_of v (step v t (nat_abs z)) b ≡ scan_of v t (prepend z b)
 unfolding scan_of prepend tallied
@@ -43,8 +39,8 @@ scanned_body v t [] = refl
 scanned_body v t (w ∷ ws) = go (number w.bytes) refl (λ z. scanned_body v (step v t (nat_abs z)) ws)
   where
     go : (o : Option ℤ) → number w.bytes ≡ o → ((z : ℤ) → scanned v (step v t (nat_abs z)) ws ≡ scan_of v (step v t (nat_abs z)) (body ws)) → scanned v t (w ∷ ws) ≡ scan_of v t (body (w ∷ ws))
-    go none e ih = rw (scanned, body, e)
-    go (some z) e ih = rw (scanned, body, e) (ih z ∙ scan_prepend v t z (body ws))
+    go None e ih = rw (scanned, body, e)
+    go (Some z) e ih = rw (scanned, body, e) (ih z ∙ scan_prepend v t z (body ws))
 
 -- the numbers of a body that is not malformed
 pub body_entries : (ws : List Stretch) (numbers : List ℤ) → body ws ≡ Body.entries numbers → numbers_of ws ≡ numbers
@@ -53,24 +49,24 @@ body_entries [] numbers h = cc
 body_entries (w ∷ ws) numbers h = go (number w.bytes) refl (body ws) refl (body_entries ws)
   where
     go : (o : Option ℤ) → number w.bytes ≡ o → (b : Body) → body ws ≡ b → ((l : List ℤ) → body ws ≡ Body.entries l → numbers_of ws ≡ l) → numbers_of (w ∷ ws) ≡ numbers
-    go none e b k ih = let f = rw (body, e) at h in let z : ◌≡◌ {A = ℕ} 0 1 = cc in absurd (omega arith)
-    go (some z) e (Body.entries l) k ih = let f = rw (body, e, k) at h in let same : z ∷ l ≡ numbers = cc in rw (numbers_of, e, ih l k) same
-    go (some z) e (Body.malformed p) k ih = let f = rw (body, e, k) at h in let q : ◌≡◌ {A = ℕ} 0 1 = cc in absurd (omega arith)
+    go None e b k ih = let f = rw (body, e) at h in let z : ◌≡◌ {A = ℕ} 0 1 = cc in absurd (omega arith)
+    go (Some z) e (Body.entries l) k ih = let f = rw (body, e, k) at h in let same : z ∷ l ≡ numbers = cc in rw (numbers_of, e, ih l k) same
+    go (Some z) e (Body.malformed p) k ih = let f = rw (body, e, k) at h in let q : ◌≡◌ {A = ℕ} 0 1 = cc in absurd (omega arith)
 
 module _ (v : ℕ) (ws : List Stretch) where
-  scanned_refused : (r : Refusal) → scanned v start ws ≡ C.Refused r → (p : ℕ) × (r ≡ Word p) × (body ws ≡ Body.malformed p)
+  scanned_refused : (r : Refusal) → scanned v start ws ≡ Err r → (p : ℕ) × (r ≡ Word p) × (body ws ≡ Body.malformed p)
   unfolding scan_of
   scanned_refused r e = go (body ws) (sym (scanned_body v start ws) ∙ e)
     where
-      go : (b : Body) → scan_of v start b ≡ C.Refused r → (p : ℕ) × (r ≡ Word p) × (b ≡ Body.malformed p)
+      go : (b : Body) → scan_of v start b ≡ Err r → (p : ℕ) × (r ≡ Word p) × (b ≡ Body.malformed p)
       go (Body.entries numbers) h = let z : ◌≡◌ {A = ℕ} 0 1 = cc in absurd (omega arith)
       go (Body.malformed q) h = let same : Word q ≡ r = cc in (q, sym same, refl)
 
-  pub scanned_numbers : (t : EntryTally) → scanned v start ws ≡ C.Numbers t → (body ws ≡ Body.entries (numbers_of ws)) × (t ≡ tally_of v (numbers_of ws))
+  pub scanned_numbers : (t : EntryTally) → scanned v start ws ≡ Ok t → (body ws ≡ Body.entries (numbers_of ws)) × (t ≡ tally_of v (numbers_of ws))
   unfolding scan_of
   scanned_numbers t e = go (body ws) refl (sym (scanned_body v start ws) ∙ e)
     where
-      go : (b : Body) → body ws ≡ b → scan_of v start b ≡ C.Numbers t → (body ws ≡ Body.entries (numbers_of ws)) × (t ≡ tally_of v (numbers_of ws))
+      go : (b : Body) → body ws ≡ b → scan_of v start b ≡ Ok t → (body ws ≡ Body.entries (numbers_of ws)) × (t ≡ tally_of v (numbers_of ws))
       go (Body.entries numbers) k h = let same : tallied v start (map nat_abs numbers) ≡ t = cc in rw (body_entries ws numbers k) (k, sym same ∙ tally_all v numbers)
       go (Body.malformed q) k h = let z : ◌≡◌ {A = ℕ} 0 1 = cc in absurd (omega arith)
 
@@ -86,22 +82,22 @@ module _ (row : List ℤ) (s : Sizes) (numbers : List ℤ) where
     unfolding read_numbers numbers_tests decide
     behind_room = rw (le-ltb _ _ h)
 
-    pub numbers_sizes : (r : Refusal) → check_sizes s.nets s.clauses (length numbers) ≡ K.Refused r → read_numbers row s numbers ≡ refused row r
+    pub numbers_sizes : (r : Refusal) → check_sizes s.nets s.clauses (length numbers) ≡ Err r → read_numbers row s numbers ≡ refused row r
     numbers_sizes r e = behind_room ∙ sizes_refused (refused row) (accepted row s numbers) s.nets s.clauses numbers (entry_tests s.nets s.clauses numbers) r e
 
-    module _ (e : check_sizes s.nets s.clauses (length numbers) ≡ K.Passed) where
+    module _ (e : check_sizes s.nets s.clauses (length numbers) ≡ Ok tt) where
       behind_sizes : read_numbers row s numbers ≡ decide (refused row) (accepted row s numbers) (entry_tests s.nets s.clauses numbers)
       behind_sizes = behind_room ∙ sizes_passed (refused row) (accepted row s numbers) s.nets s.clauses numbers (entry_tests s.nets s.clauses numbers) e
 
-      pub numbers_entries : (r : Refusal) → check_entries s.clauses (tally_of s.nets numbers) ≡ K.Refused r → read_numbers row s numbers ≡ refused row r
+      pub numbers_entries : (r : Refusal) → check_entries s.clauses (tally_of s.nets numbers) ≡ Err r → read_numbers row s numbers ≡ refused row r
       numbers_entries r k = behind_sizes ∙ entries_refused (refused row) (accepted row s numbers) s.nets s.clauses numbers [] r k
 
-      pub numbers_accepted : check_entries s.clauses (tally_of s.nets numbers) ≡ K.Passed → read_numbers row s numbers ≡ accepted row s numbers
+      pub numbers_accepted : check_entries s.clauses (tally_of s.nets numbers) ≡ Ok tt → read_numbers row s numbers ≡ accepted row s numbers
       unfolding decide
       numbers_accepted k = behind_sizes ∙ entries_passed (refused row) (accepted row s numbers) s.nets s.clauses numbers [] k
 
 -- what an outcome that is a refusal holds
-pub refused_is : {o : Outcome} (row : List ℤ) (r : Refusal) → o ≡ refused row r → (R.Refused r ≡ o.result) × (row ≡ o.row)
+pub refused_is : {o : Outcome} (row : List ℤ) (r : Refusal) → o ≡ refused row r → (Err r ≡ o.result) × (row ≡ o.row)
 unfolding refused
 refused_is row r e = (sym (ap (λ (o : Outcome). o.result) e), sym (ap (λ (o : Outcome). o.row) e))
 
@@ -111,7 +107,7 @@ module _ (row : List ℤ) (s : Sizes) where
   body_malformed b p e = rw e
 
   -- a scan that is refused refuses the body
-  pub body_refused : (v : ℕ) (ws : List Stretch) (r : Refusal) → scanned v start ws ≡ C.Refused r → read_body row s (body ws) ≡ refused row r
+  pub body_refused : (v : ℕ) (ws : List Stretch) (r : Refusal) → scanned v start ws ≡ Err r → read_body row s (body ws) ≡ refused row r
   body_refused v ws r e = let word = scanned_refused v ws r e in rw word.1 (body_malformed (body ws) word.0 word.2)
 
   pub body_numbers : (b : Body) (numbers : List ℤ) → b ≡ Body.entries numbers → read_body row s b ≡ read_numbers row s numbers
@@ -124,7 +120,7 @@ module _ (text : List ℕ) (row : List ℤ) where
   text_long h = rw (lt-ltb _ _ h)
 
   module _ (h : length text ≤ max_text) where
-    pub heading_malformed : (p : ℕ) → heading_of text ≡ malformed p → reading text row ≡ refused row (Header p)
+    pub heading_malformed : (p : ℕ) → heading_of text ≡ malformed p → reading text row ≡ refused row (HeaderRefusal p)
     unfolding reading reading_tests is_malformed malformed_at decide
     heading_malformed p e = rw (le-ltb _ _ h, e)
 
@@ -142,5 +138,8 @@ module _ (text : List ℕ) (row : List ℤ) where
     unfolding reading read_body reading_tests is_malformed sizes_of body_of decide
     heading_sized s ls e = rw (le-ltb _ _ h) (sized_heading s ls (heading_of text) e)
 
-    pub header_sized : (v c q : ℕ) → HeaderFound text (H.Sized v c q) → reading text row ≡ read_body row (record { nets = v; clauses = c }) (body (words_from text q))
-    header_sized v c q f = heading_sized _ f.0 f.1 ∙ rw f.2
+    pub header_sized : (found : Header) → HeaderFound text (Ok found) → reading text row ≡ read_body row found.sizes (body (words_from text found.body))
+    header_sized found f = heading_sized _ f.0 f.1 ∙ rw f.2
+
+-- what reading answers, test by test
+pub ruleset readings = (header_sized, heading_malformed, refused_is, text_long)

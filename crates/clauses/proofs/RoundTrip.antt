@@ -11,6 +11,7 @@ use lib.Dec.{ltb}
 use lib.IntN.{ℤ}
 use lib.ListN.{length, take, drop}
 use lib.Seq.{take-append_seam}
+use Rattle.std.specs.Prelude.{Ok, Err}
 use Rattle.clauses.specs.Limit.{max_text, max_nets, max_clauses}
 use Rattle.clauses.specs.Printing as Printing
 use Rattle.clauses.specs.Printing.{list_text, printing_tests, printing, written}
@@ -20,8 +21,6 @@ use Rattle.clauses.specs.Scanning.{read_numbers}
 use Rattle.clauses.specs.Refusal.{Test, row_too_short, size_tests, entry_tests, buffer_too_short, first_over}
 use Rattle.clauses.specs.declared.refusal.Refusal.{Refusal}
 use Rattle.clauses.specs.declared.refusal.Refusal.TheVariants.{RowTooShort}
-use Rattle.clauses.specs.declared.printing.Printing.TheVariants.{Written}
-use Rattle.clauses.specs.declared.reading.Reading.TheVariants.{Accepted, Refused}
 use Rattle.clauses.proofs.Deciding.{NoneHolds, none_holds_append, decide_accepted, decide_first, decide_none_holds}
 use Rattle.clauses.proofs.ReadingTests.{body_numbers, heading_sized}
 use Rattle.clauses.proofs.PrintedText.{headline, heading_printed, body_printed}
@@ -35,11 +34,11 @@ second_false true t e = absurd (true≢false e)
 second_false false t e = e
 
 -- printing accepts the list and writes n bytes
-module _ (v c : ℕ) (row : List ℤ) (buffer : List ℕ) (n : ℕ) (accepts : (printing v c row buffer).result ≡ Written n) where
+module _ (v c : ℕ) (row : List ℤ) (buffer : List ℕ) (n : ℕ) (accepts : (printing v c row buffer).result ≡ Ok n) where
   none_holds : NoneHolds (printing_tests v c row buffer)
   unfolding printing printing_tests Printing.refused
   none_holds =
-      decide_none_holds (Printing.refused buffer) (written buffer (list_text v c row)) (λ o. o.result ≡ Written n)
+      decide_none_holds (Printing.refused buffer) (written buffer (list_text v c row)) (λ o. o.result ≡ Ok n)
       (λ r e. let z : ◌≡◌ {A = ℕ} 0 1 = cc in omega arith) (printing_tests v c row buffer) accepts
 
   -- the tests of the list and the test of the buffer, none of which holds
@@ -72,7 +71,7 @@ module _ (v c : ℕ) (row : List ℤ) (buffer : List ℕ) (n : ℕ) (accepts : (
       ∙ body_numbers lent _ _ row (body_printed v (omega arith) row within (0 + length (headline v c) + 1))
 
   -- read back from its text into a row with room for it, the list gives that V, that C and that row
-  pub round_trip : (lent : List ℤ) → length row ≤ length lent → reading (list_text v c row) lent ≡ record { result = Accepted (record { nets = v; clauses = c; entries = length row }); row = row ++ drop (length row) lent }
+  pub round_trip : (lent : List ℤ) → length row ≤ length lent → reading (list_text v c row) lent ≡ record { result = Ok (record { nets = v; clauses = c; entries = length row }); row = row ++ drop (length row) lent }
   unfolding read_numbers numbers_tests accepted
   round_trip lent room =
       reads_numbers lent
@@ -81,12 +80,12 @@ module _ (v c : ℕ) (row : List ℤ) (buffer : List ℕ) (n : ℕ) (accepts : (
       (le-ltb (length lent) (length row) room, both.0)
 
   -- and into a row that is too short it is turned away for that
-  pub round_trip_room : (lent : List ℤ) → length lent < length row → reading (list_text v c row) lent ≡ record { result = Refused RowTooShort; row = lent }
+  pub round_trip_room : (lent : List ℤ) → length lent < length row → reading (list_text v c row) lent ≡ record { result = Err RowTooShort; row = lent }
   unfolding read_numbers numbers_tests Reading.refused
   round_trip_room lent short = reads_numbers lent ∙ decide_first (Reading.refused lent) _ (row_too_short (length lent) row) _ (lt-ltb (length lent) (length row) short)
 
   -- reading a printed text refuses for no other reason than the row's room
-  pub round_trip_refused : (lent : List ℤ) (r : Refusal) → (reading (list_text v c row) lent).result ≡ Refused r → (r ≡ RowTooShort) × (length lent < length row)
+  pub round_trip_refused : (lent : List ℤ) (r : Refusal) → (reading (list_text v c row) lent).result ≡ Err r → (r ≡ RowTooShort) × (length lent < length row)
   round_trip_refused lent r e =
       cases (ltb (length lent) (length row))
       (λ t. let short : length lent < length row = ltb-true (length lent) (length row) t in

@@ -3,7 +3,7 @@
 use mathlib.Core.Path.{◌≡◌, refl, sym, ap, ◌∙◌}
 use mathlib.Core.Bool.{Bool, true, false, cond, not, and-eq-true_iff}
 use mathlib.Core.List.{List, [], ◌∷◌, ◌++◌, append-nil}
-use Prim.Native.Nat.{ℕ, suc, ◌+◌, ◌≤◌}
+use Prim.Native.Nat.{ℕ, zero, suc, ◌+◌, ◌≤◌, ◌<◌}
 use native.Mathlib.Nat.{add-zero}
 use native.Mathlib.Numerals.{add-one}
 use native.Mathlib.Omega.{arith}
@@ -33,6 +33,11 @@ module _ (f : ℕ → Bool) where
   pub every_first : (l : List ℕ) (d : ℕ) → every f l ≡ true → 1 ≤ length l → f (get_or l 0 d) ≡ true
   every_first [] d e h = absurd (omega arith)
   every_first (b ∷ l) d e h = every_head b l e
+
+  pub every_at : (l : List ℕ) (i : ℕ) → every f l ≡ true → i < length l → f (get_or l i 0) ≡ true
+  every_at [] i e h = absurd (omega arith)
+  every_at (b ∷ l) zero e h = every_head b l e
+  every_at (b ∷ l) (suc i) e h = every_at l i (every_tail b l e) (omega arith)
 
   pub every_weaken : (g : ℕ → Bool) → ((b : ℕ) → g b ≡ true → f b ≡ true) → (l : List ℕ) → every g l ≡ true → every f l ≡ true
   unfolding every

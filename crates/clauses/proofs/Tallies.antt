@@ -11,9 +11,17 @@ use lib.IntN.{ℤ, pos, nat_abs}
 use lib.ListN.{length, get_or, take, length-append}
 use lib.Seq.{take-suc, take_all, length-take-le}
 use borrow.Author.Tests.{lt-ltb, le-ltb, leb-true, leb-false}
+use mir.Val.{bool_byte}
 use Rattle.clauses.specs.Refusal.{first_over, zeros, is_ended}
 use Rattle.clauses.specs.Tally.{start, step, tallied, tally_of}
 use Rattle.clauses.specs.declared.tally.EntryTally.{EntryTally}
+use Rattle.clauses.proofs.Signed.{magnitude_back}
+use Rattle.clauses.proofs.Walks.{stepped}
+
+-- one more where the test passed
+pub counted : (b : Bool) (n : ℕ) → n + bool_byte b ≡ cond b (n + 1) n
+counted true n = refl
+counted false n = omega arith
 
 suc_cond : (b : Bool) (n : ℕ) → suc (cond b (n + 1) n) ≡ cond b (suc n + 1) (suc n)
 suc_cond true n = omega arith
@@ -101,3 +109,6 @@ module _ (v : ℕ) (row : List ℤ) where
 
   pub tally_full : (i : ℕ) → length row ≤ i → tally_of v (take i row) ≡ tally_of v row
   tally_full i h = rw take_all
+
+-- the tally of a row, entry by entry
+pub ruleset row_tallies = (stepped, tally_none, tally_zeros, tally_entries, tally_next, tally_full, magnitude_back)

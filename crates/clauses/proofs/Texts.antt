@@ -1,21 +1,25 @@
 -- The parts of a clause list's text.
 -- Assumes nothing.
 use mathlib.Core.Path.{◌≡◌, refl, ap, sym, ◌∙◌}
-use mathlib.Core.Bool.{Bool, true, false, cond, not}
+use mathlib.Core.Bool.{Bool, true, false, cond, false≢true}
 use mathlib.Core.List.{List, [], ◌∷◌, ◌++◌, append_assoc, append-nil}
 use Prim.Native.Nat.{ℕ, suc, ◌+◌, ◌*◌, ◌≤◌, ◌<◌}
 use native.Mathlib.Numerals.{add-one}
 use native.Mathlib.Omega.{arith}
 use lib.Dec.{eqb}
 use lib.IntN.{ℤ, pos, negsuc, nat_abs}
-use lib.Signed.{non_neg}
+use mir.Val.{bool_byte}
+use Rattle.std.specs.Int.{is_negative}
 use lib.ListN.{length, get_or, take, drop, length-append, take-append-drop}
 use lib.Seq.{take-suc}
-use borrow.Author.Tests.{eq-eqb, ne_eqb}
+use borrow.Author.Tests.{ne_eqb}
 use Rattle.clauses.specs.Bytes.{space, lf, minus, nought}
 use Rattle.clauses.specs.Number.{decimal, signed_decimal}
 use Rattle.clauses.specs.Printing.{header_text, entry_text, row_text, list_text}
 use Rattle.clauses.proofs.Decimals.{decimal_length}
+use Rattle.clauses.proofs.Walks.{stepped}
+use Rattle.clauses.proofs.Writes.{wrote_then}
+use Rattle.clauses.proofs.Signed.{not_negative, magnitude_back, read_back, sign_back, zero_back}
 
 module _ (v c : ℕ) where
   pub header_length : length (header_text v c) ≡ length (decimal v) + length (decimal c) + 8
@@ -27,34 +31,34 @@ module _ (v c : ℕ) where
   unfolding header_text
   header_parts = simp append_assoc
 
-minus_none : (z : ℤ) → not (non_neg z) ≡ false → signed_decimal z ≡ decimal (nat_abs z)
+-- An entry
+
+pub signed_plain : (z : ℤ) → is_negative z ≡ false → signed_decimal z ≡ decimal (nat_abs z)
 unfolding signed_decimal
-minus_none (pos n) h = refl
-minus_none (negsuc n) h = let e : ◌≡◌ {A = ℕ} 0 1 = cc in absurd (omega arith)
+signed_plain (pos n) h = refl
+signed_plain (negsuc n) h = let e : ◌≡◌ {A = ℕ} 0 1 = cc in absurd (omega arith)
 
-minus_first : (z : ℤ) → not (non_neg z) ≡ true → signed_decimal z ≡ minus ∷ decimal (nat_abs z)
+pub signed_minus : (z : ℤ) → is_negative z ≡ true → signed_decimal z ≡ minus ∷ decimal (nat_abs z)
 unfolding signed_decimal
-minus_first (pos n) h = let e : ◌≡◌ {A = ℕ} 0 1 = cc in absurd (omega arith)
-minus_first (negsuc n) h = refl
+signed_minus (pos n) h = absurd (false≢true (sym (not_negative n) ∙ h))
+signed_minus (negsuc n) h = refl
 
--- an entry of magnitude m
-module _ (z : ℤ) (m : ℕ) (magnitude : m ≡ nat_abs z) where
-  pub signed_plain : (b : Bool) → b ≡ not (non_neg z) → b ≡ false → signed_decimal z ≡ decimal m
-  signed_plain b e h = rw magnitude (minus_none z (sym e ∙ h))
+pub signed_length : (z : ℤ) → length (decimal (nat_abs z)) + bool_byte (is_negative z) ≡ length (signed_decimal z)
+unfolding signed_decimal
+signed_length (pos n) = rw (not_negative n) (omega arith)
+signed_length (negsuc n) = omega arith
 
-  pub signed_minus : (b : Bool) → b ≡ not (non_neg z) → b ≡ true → signed_decimal z ≡ minus ∷ decimal m
-  signed_minus b e h = rw magnitude (minus_first z (sym e ∙ h))
+pub entry_zero : (z : ℤ) → z ≡ pos 0 → entry_text z ≡ nought ∷ lf ∷ []
+unfolding entry_text
+entry_zero z e = rw e
 
-  pub entry_zero : m ≡ 0 → entry_text z ≡ nought ∷ lf ∷ []
-  unfolding entry_text
-  entry_zero e = rw (← magnitude, eq-eqb m 0 e)
+pub entry_literal : (z : ℤ) → (z ≡ pos 0 → ⊥) → entry_text z ≡ signed_decimal z ++ (space ∷ [])
+unfolding entry_text
+entry_literal (pos n) h = rw (ne_eqb n 0 (λ e. h (ap pos e)))
+entry_literal (negsuc n) h = rw (ne_eqb (suc n) 0 (λ e. omega arith))
 
-  pub entry_literal : (m ≡ 0 → ⊥) → entry_text z ≡ signed_decimal z ++ (space ∷ [])
-  unfolding entry_text
-  entry_literal n = rw (← magnitude, ne_eqb m 0 n)
-
-  pub entry_literal_length : (m ≡ 0 → ⊥) → length (entry_text z) ≡ length (signed_decimal z) + 1
-  entry_literal_length n = rw (entry_literal n) (length-append (signed_decimal z) (space ∷ []))
+pub entry_literal_length : (z : ℤ) → (z ≡ pos 0 → ⊥) → length (entry_text z) ≡ length (signed_decimal z) + 1
+entry_literal_length z h = rw (entry_literal z h) (length-append (signed_decimal z) (space ∷ []))
 
 pub number_length : (z : ℤ) → length (signed_decimal z) ≤ 21
 unfolding signed_decimal
@@ -109,3 +113,21 @@ module _ (row : List ℤ) (i : ℕ) (h : i < length row) where
 pub list_length : (v c : ℕ) (row : List ℤ) → length (list_text v c row) ≡ length (header_text v c) + length (row_text row)
 unfolding list_text
 list_length v c row = length-append (header_text v c) (row_text row)
+
+-- the length of a number
+pub ruleset number_lengths = (number_length, signed_length, magnitude_back, sign_back)
+
+-- .. of an entry
+pub ruleset entry_lengths = (number_length, entry_zero, entry_literal_length, read_back, zero_back)
+
+-- .. of a row, entry by entry
+pub ruleset row_lengths = (stepped, row_length, row_none, row_next_length, row_room, read_back)
+
+-- .. of a list
+pub ruleset list_lengths = (decimal_length, header_length, row_length, list_length)
+
+-- a number, written
+pub ruleset numbers = (signed_minus, signed_plain, magnitude_back, sign_back, wrote_then)
+
+-- an entry, written
+pub ruleset entries = (entry_zero, entry_literal, entry_literal_length, read_back, zero_back)

@@ -3,7 +3,7 @@
 use mathlib.Core.Path.{◌≡◌, refl, sym, ◌∙◌, ap}
 use mathlib.Core.Bool.{Bool, true}
 use mathlib.Core.List.{List, [], ◌∷◌}
-use mathlib.Core.Option.{Option, none, some}
+use Rattle.std.specs.Prelude.{Option, None, Some}
 use Prim.Native.Nat.{ℕ, suc, ◌+◌, ◌*◌, ◌≤◌}
 use native.Mathlib.Omega.{arith}
 use borrow.Table.Steps.{cases}
@@ -62,12 +62,12 @@ numbers_words [] = omega arith
 numbers_words (w ∷ ws) = go (number w.bytes) refl (numbers_words ws)
   where
     go : (o : Option ℤ) → number w.bytes ≡ o → length (numbers_of ws) ≤ length ws → length (numbers_of (w ∷ ws)) ≤ length (w ∷ ws)
-    go none e h = rw (numbers_of, e) (omega arith)
-    go (some z) e h = rw (numbers_of, e) (omega arith)
+    go None e h = rw (numbers_of, e) (omega arith)
+    go (Some z) e h = rw (numbers_of, e) (omega arith)
 
 -- The header
 
-after_length : (w l r : List ℕ) → after w l ≡ some r → length l ≡ length w + length r
+after_length : (w l r : List ℕ) → after w l ≡ Some r → length l ≡ length w + length r
 unfolding after
 after_length [] l r e = let same : l ≡ r = cc in rw same (omega arith)
 after_length (x ∷ w) [] r e = let z : ◌≡◌ {A = ℕ} 0 1 = cc in absurd (omega arith)
@@ -77,7 +77,7 @@ after_length (x ∷ w) (b ∷ l) r e =
 behind_length : (f : ℕ → Bool) (l : List ℕ) → length (front f l) + length (behind f l) ≡ length l
 behind_length f l = sym (length-append (front f l) (behind f l)) ∙ ap length (front_behind f l)
 
-gap_length : (l r : List ℕ) → after_gap l ≡ some r → length r + 1 ≤ length l
+gap_length : (l r : List ℕ) → after_gap l ≡ Some r → length r + 1 ≤ length l
 unfolding after_gap is_gap front
 gap_length [] r e = let z : ◌≡◌ {A = ℕ} 0 1 = cc in absurd (omega arith)
 gap_length (b ∷ l) r e =
@@ -88,12 +88,12 @@ gap_length (b ∷ l) r e =
     first_gap : is_gap b ≡ true → 1 ≤ length (front is_gap (b ∷ l))
     first_gap t = rw (t, front) (omega arith)
 
-digits_length : (w : List ℕ) (n : ℕ) → unsigned w ≡ some n → 1 ≤ length w
+digits_length : (w : List ℕ) (n : ℕ) → unsigned w ≡ Some n → 1 ≤ length w
 digits_length [] n e = let k = sym (unsigned_empty [] refl) ∙ e in let z : ◌≡◌ {A = ℕ} 0 1 = cc in absurd (omega arith)
 digits_length (b ∷ w) n e = omega arith
 
 -- `p`, a gap, `cnf` and a gap; V, a gap and C
-format_length : (line r : List ℕ) → after_format line ≡ some r → 6 + length r ≤ length line
+format_length : (line r : List ℕ) → after_format line ≡ Some r → 6 + length r ≤ length line
 unfolding after_format
 format_length line r e =
     let p = then_there _ _ r e in
@@ -101,7 +101,7 @@ format_length line r e =
     let f = then_there _ _ r g.2 in
     omega (arith, after_length _ line p.0 p.1, gap_length p.0 g.0 g.1, after_length _ g.0 f.0 f.1, gap_length f.0 r f.2)
 
-sizes_length : (l : List ℕ) (s : Sizes) → sizes l ≡ some s → 3 ≤ length l
+sizes_length : (l : List ℕ) (s : Sizes) → sizes l ≡ Some s → 3 ≤ length l
 unfolding sizes
 sizes_length l s e =
     let v = then_there _ _ s e in
@@ -109,7 +109,7 @@ sizes_length l s e =
     let c = then_there _ _ s g.2 in
     omega (arith, digits_length _ v.0 v.1, behind_length is_digit l, gap_length (behind is_digit l) g.0 g.1, digits_length _ c.0 c.1, behind_length is_digit g.0)
 
-header_length : (line : List ℕ) (s : Sizes) → header_line line ≡ some s → 9 ≤ length line
+header_length : (line : List ℕ) (s : Sizes) → header_line line ≡ Some s → 9 ≤ length line
 unfolding header_line
 header_length line s e = let f = then_there _ _ s e in omega (arith, format_length line f.0 f.1, sizes_length f.0 s f.2)
 
@@ -120,8 +120,8 @@ heading_span n (l ∷ ls) s rest e =
     cases (is_passed l.bytes) (λ t. let k = heading_span n ls s rest (rw t at e) in omega arith) (λ t. here (header_line l.bytes) refl (rw t at e))
   where
     here : (o : Option Sizes) → header_line l.bytes ≡ o → as_header l ls ≡ sized s rest → span rest + 10 ≤ length l.bytes + 1 + span ls
-    here none q k = let f = rw (as_header, q) at k in let z : ◌≡◌ {A = ℕ} 0 1 = cc in absurd (omega arith)
-    here (some s') q k = let f = rw (as_header, q) at k in let same : ls ≡ rest = cc in omega (arith, header_length l.bytes s' q, ap span same)
+    here None q k = let f = rw (as_header, q) at k in let z : ◌≡◌ {A = ℕ} 0 1 = cc in absurd (omega arith)
+    here (Some s') q k = let f = rw (as_header, q) at k in let same : ls ≡ rest = cc in omega (arith, header_length l.bytes s' q, ap span same)
 
 -- The numbers of a text's body.
 pub numbers_few : (text : List ℕ) (s : Sizes) (ls : List Stretch) (numbers : List ℤ) → heading_of text ≡ sized s ls → body (words_of ls) ≡ Body.entries numbers

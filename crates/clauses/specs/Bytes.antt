@@ -44,12 +44,12 @@ unfoldable pub every : (ℕ → Bool) → List ℕ → Bool
 every f [] = true
 every f (b ∷ l) = f b && every f l
 
--- the longest part at the front whose bytes all have the property, and what follows it
-unfoldable pub front : (ℕ → Bool) → List ℕ → List ℕ
+-- the longest part at the front of which each byte, or other item, has the property, and what follows it
+unfoldable pub front : {A : Type 0} → (A → Bool) → List A → List A
 front f [] = []
 front f (b ∷ l) = cond (f b) (b ∷ front f l) []
 
-unfoldable pub behind : (ℕ → Bool) → List ℕ → List ℕ
+unfoldable pub behind : {A : Type 0} → (A → Bool) → List A → List A
 behind f l = drop (length (front f l)) l
 
 -- a stretch of the text, and the place of its first byte

@@ -1,7 +1,6 @@
 -- Numbers in a text.
 -- Assumes nothing.
-use Rattle.std.specs.Prelude.{Bool, true, false, cond, not, ◌&&◌, ◌||◌, List, [], ◌∷◌, ◌++◌, ℕ, zero, suc, ◌+◌, ◌-◌, ◌*◌, ◌/◌, ◌%◌, eqb, leb, ltb, ℤ, pos, negsuc, neg_ℤ, length, get_or}
-use Rattle.std.proofs.Math.Option.{Option, none, some}
+use Rattle.std.specs.Prelude.{Bool, true, false, cond, not, ◌&&◌, ◌||◌, List, [], ◌∷◌, ◌++◌, ℕ, zero, suc, ◌+◌, ◌-◌, ◌*◌, ◌/◌, ◌%◌, eqb, leb, ltb, ℤ, pos, negsuc, neg_ℤ, length, get_or, Option, Some, None}
 use Rattle.clauses.specs.Bytes.{minus, nought, is_digit, every}
 
 -- the value of digits, after those that make n
@@ -19,7 +18,7 @@ is_zero w = eqb (length w) 1 && eqb (get_or w 0 0) nought
 
 -- a number that carries no minus
 unfoldable pub unsigned : List ℕ → Option ℕ
-unsigned w = cond (is_zero w || is_positive w) (some (value 0 w)) none
+unsigned w = cond (is_zero w || is_positive w) (Some (value 0 w)) None
 
 -- a sign and a magnitude as one number
 abbrev pub signed : Bool → ℕ → ℤ
@@ -28,10 +27,10 @@ signed false m = pos m
 
 -- 'A number is `0`, or an optional minus and 1 to 9 digits of which the first is not 0'
 unfoldable pub number : List ℕ → Option ℤ
-number [] = none
+number [] = None
 number (b ∷ w) =
-    cond (eqb b minus) (cond (is_positive w) (some (signed true (value 0 w))) none)
-    (cond (is_zero (b ∷ w) || is_positive (b ∷ w)) (some (signed false (value 0 (b ∷ w)))) none)
+    cond (eqb b minus) (cond (is_positive w) (Some (signed true (value 0 w))) None)
+    (cond (is_zero (b ∷ w) || is_positive (b ∷ w)) (Some (signed false (value 0 (b ∷ w)))) None)
 
 -- a number below 10^(k + 1) in decimal
 unfoldable pub digits : ℕ → ℕ → List ℕ

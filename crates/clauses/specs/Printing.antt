@@ -1,12 +1,10 @@
 -- The DIMACS text of a clause list.
 -- Assumes nothing.
-use Rattle.std.specs.Prelude.{cond, List, [], ◌∷◌, ◌++◌, ℕ, eqb, ℤ, nat_abs, length, drop}
+use Rattle.std.specs.Prelude.{cond, List, [], ◌∷◌, ◌++◌, ℕ, eqb, ℤ, nat_abs, length, drop, Result, Ok, Err}
 use Rattle.clauses.specs.Bytes.{space, lf, nought}
 use Rattle.clauses.specs.Number.{decimal, signed_decimal}
 use Rattle.clauses.specs.Refusal.{Test, decide, size_tests, entry_tests, buffer_too_short}
 use Rattle.clauses.specs.declared.refusal.Refusal.{Refusal}
-use Rattle.clauses.specs.declared.printing.Printing.{Printing}
-use Rattle.clauses.specs.declared.printing.Printing.TheVariants.{Written, Refused}
 
 -- 'Printing writes the header with single spaces and LF'
 unfoldable pub header_text : ℕ → ℕ → List ℕ
@@ -25,16 +23,16 @@ list_text v c row = header_text v c ++ row_text row
 
 -- what printing answers, and what the lent text buffer then holds
 pub record Outcome : Type 0 where
-  pub result : Printing
+  pub result : Result ℕ Refusal
   pub buffer : List ℕ
 
 -- 'Everything lent keeps its contents.'
 unfoldable pub refused : List ℕ → Refusal → Outcome
-refused buffer r = record { result = Refused r; buffer = buffer }
+refused buffer r = record { result = Err r; buffer = buffer }
 
 -- 'printing .. answer[s] the bytes written; what was lent past that keeps its contents'
 unfoldable pub written : List ℕ → List ℕ → Outcome
-written buffer text = record { result = Written (length text); buffer = text ++ drop (length text) buffer }
+written buffer text = record { result = Ok (length text); buffer = text ++ drop (length text) buffer }
 
 -- 'printing 5 to 7 and 10 to 13', of V, C, a literal row and a lent text buffer
 unfoldable pub printing_tests : ℕ → ℕ → List ℤ → List ℕ → List Test

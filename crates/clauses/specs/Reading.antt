@@ -1,14 +1,13 @@
 -- What a DIMACS text reads as.
 -- Assumes nothing.
-use Rattle.std.specs.Prelude.{Bool, true, false, cond, ◌||◌, List, [], ◌∷◌, ◌++◌, ℕ, eqb, ℤ, length, get_or, drop}
-use Rattle.std.proofs.Math.Option.{Option, none, some}
+use Rattle.std.specs.Prelude.{Bool, true, false, cond, ◌||◌, List, [], ◌∷◌, ◌++◌, ℕ, eqb, ℤ, length, get_or, drop, Option, Some, None, option_and_then, Result, Ok, Err}
 use Rattle.clauses.specs.Bytes.{lf, letter_c, is_blank, is_gap, is_digit, every, front, behind, Stretch, split}
 use Rattle.clauses.specs.Number.{unsigned, number}
 use Rattle.clauses.specs.Refusal.{Test, decide, text_too_long, row_too_short, size_tests, entry_tests}
 use Rattle.clauses.specs.declared.refusal.Refusal.{Refusal}
 use Rattle.clauses.specs.declared.refusal.Refusal.TheVariants.{Header, Word}
-use Rattle.clauses.specs.declared.reading.Reading.{Reading}
-use Rattle.clauses.specs.declared.reading.Reading.TheVariants.{Accepted, Refused}
+use Rattle.clauses.specs.declared.reading.ListSize.{ListSize}
+pub use Rattle.clauses.specs.declared.header.Sizes.{Sizes}
 
 -- Lines
 
@@ -28,22 +27,17 @@ is_passed line = is_comment line || every is_blank line
 
 -- what follows the given bytes
 unfoldable pub after : List ℕ → List ℕ → Option (List ℕ)
-after [] l = some l
-after (x ∷ xs) [] = none
-after (x ∷ xs) (b ∷ l) = cond (eqb b x) (after xs l) none
+after [] l = Some l
+after (x ∷ xs) [] = None
+after (x ∷ xs) (b ∷ l) = cond (eqb b x) (after xs l) None
 
 -- what follows one or more spaces or tabs
 unfoldable pub after_gap : List ℕ → Option (List ℕ)
-after_gap l = cond (is_gap (get_or l 0 0)) (some (behind is_gap l)) none
+after_gap l = cond (is_gap (get_or l 0 0)) (Some (behind is_gap l)) None
 
 -- the second step on what the first one gives
-unfoldable pub then : {A B : Type 0} → Option A → (A → Option B) → Option B
-then none f = none
-then (some a) f = f a
-
-pub record Sizes : Type 0 where
-  pub nets : ℕ
-  pub clauses : ℕ
+abbrev pub then : {A B : Type 0} → Option A → (A → Option B) → Option B
+then o f = option_and_then f o
 
 -- '`p` as first byte, `cnf`, V, C, separated by spaces or tabs, with nothing but blanks after': up to V
 unfoldable pub after_format : List ℕ → Option (List ℕ)
@@ -58,7 +52,7 @@ sizes l =
     then (unsigned (front is_digit l)) (λ v.
     then (after_gap (behind is_digit l)) (λ d.
     then (unsigned (front is_digit d)) (λ c.
-    cond (every is_blank (behind is_digit d)) (some (record { nets = v; clauses = c })) none)))
+    cond (every is_blank (behind is_digit d)) (Some (record { nets = v; clauses = c })) None)))
 
 unfoldable pub header_line : List ℕ → Option Sizes
 header_line line = then (after_format line) sizes
@@ -70,7 +64,7 @@ pub data Heading : Type 0 where
 
 -- the line at hand as the header
 unfoldable pub as_header : Stretch → List Stretch → Heading
-as_header l ls = elim (header_line l.bytes) [ none ↦ malformed l.place | some s ↦ sized s ls ]
+as_header l ls = elim (header_line l.bytes) [ None ↦ malformed l.place | Some s ↦ sized s ls ]
 
 -- 'The first line that is not a comment and not all blanks must be the header'; n is the text's length
 unfoldable pub heading : ℕ → List Stretch → Heading
@@ -104,24 +98,24 @@ prepend z (malformed p) = malformed p
 -- 'a word that is not a number ends the reading at its first byte'
 unfoldable pub body : List Stretch → Body
 body [] = entries []
-body (w ∷ ws) = elim (number w.bytes) [ none ↦ malformed w.place | some z ↦ prepend z (body ws) ]
+body (w ∷ ws) = elim (number w.bytes) [ None ↦ malformed w.place | Some z ↦ prepend z (body ws) ]
 
 -- Reading
 
 -- what reading answers, and what the lent literal row then holds
 pub record Outcome : Type 0 where
-  pub result : Reading
+  pub result : Result ListSize Refusal
   pub row : List ℤ
 
 -- 'Everything lent keeps its contents.'
 unfoldable pub refused : List ℤ → Refusal → Outcome
-refused row r = record { result = Refused r; row = row }
+refused row r = record { result = Err r; row = row }
 
 -- 'reading has put the body's numbers, zeros included, at the start of the literal row and answers V, C and how many they are'
 unfoldable pub accepted : List ℤ → Sizes → List ℤ → Outcome
 accepted row s numbers =
     record {
-      result = Accepted (record { nets = s.nets; clauses = s.clauses; entries = length numbers });
+      result = Ok (record { nets = s.nets; clauses = s.clauses; entries = length numbers });
       row = numbers ++ drop (length numbers) row;
     }
 

@@ -1,76 +1,50 @@
 -- What the inner functions of reading say of a text; no entry point's contract cites these.
 -- Assumes nothing.
-use Rattle.std.specs.Prelude.{◌≡◌, Bool, true, false, cond, not, List, [], ◌∷◌, ◌++◌, ℕ, zero, suc, ◌+◌, ◌≤◌, ◌<◌, eqb, ℤ, pos, negsuc, nat_abs, length, get_or, take, drop}
-use Rattle.std.proofs.Math.Option.{Option, none, some}
-use Rattle.clauses.specs.Bytes.{lf, letter_c, is_blank, is_gap, is_digit, front, Stretch}
+use Rattle.std.specs.Prelude.{◌≡◌, Bool, true, false, cond, not, List, [], ◌∷◌, ◌++◌, ℕ, zero, suc, ◌+◌, ◌≤◌, ◌<◌, eqb, ℤ, nat_abs, length, get_or, take, drop, Option, Some, None, option_map, Result, Ok, Err}
+use Rattle.std.specs.Int.{is_negative}
+use Rattle.clauses.specs.Bytes.{lf, letter_c, is_blank, is_digit, front, Stretch}
 use Rattle.clauses.specs.Number.{unsigned, number}
 use Rattle.clauses.specs.Refusal.{decide}
 use Rattle.clauses.specs.Reading.{Sizes, sized, malformed, lines, words, words_of, Body, entries_of, heading_of, Outcome, refused, accepted, numbers_tests, body_tests}
-use Rattle.clauses.specs.declared.text.Class.{Class}
-use Rattle.clauses.specs.declared.text.Class.TheVariants.{Digit, Gap, Blank, Inline}
 use Rattle.clauses.specs.declared.number.Unsigned.{Unsigned}
-use Rattle.clauses.specs.declared.number.Unsigned.TheVariants as U
 use Rattle.clauses.specs.declared.number.Number.{Number}
-use Rattle.clauses.specs.declared.number.Number.TheVariants as N
-use Rattle.clauses.specs.declared.header.PartEnd.{PartEnd}
-use Rattle.clauses.specs.declared.header.PartEnd.TheVariants as S
-use Rattle.clauses.specs.declared.header.HeaderLine.{HeaderLine}
-use Rattle.clauses.specs.declared.header.HeaderLine.TheVariants as L
 use Rattle.clauses.specs.declared.header.Header.{Header}
-use Rattle.clauses.specs.declared.header.Header.TheVariants as H
 use Rattle.clauses.specs.Tally.{start, step}
-use Rattle.clauses.specs.declared.refusal.Refusal.TheVariants.{Word}
+use Rattle.clauses.specs.declared.refusal.Refusal.{Refusal}
+use Rattle.clauses.specs.declared.refusal.Refusal.TheVariants.{Header as HeaderRefusal, Word}
 use Rattle.clauses.specs.declared.tally.EntryTally.{EntryTally}
-use Rattle.clauses.specs.declared.body.Scan.{Scan}
-use Rattle.clauses.specs.declared.body.Scan.TheVariants as C
 
--- the class's property; a line goes on while no LF comes
-abbrev pub is_in : Class → ℕ → Bool
-is_in Digit b = is_digit b
-is_in Gap b = is_gap b
-is_in Blank b = is_blank b
-is_in Inline b = not (eqb b lf)
+-- a test, of which `post` says what each call may answer, computes p
+abbrev pub Computes : {A : Type 0} → (A → Bool → Type 0) → (A → Bool) → Type 0
+Computes {A} post p = (x : A) (b : Bool) → post x b → b ≡ p x
 
 -- a byte that belongs to a word
 abbrev pub is_in_word : ℕ → Bool
 is_in_word b = not (is_blank b)
 
-abbrev pub unsigned_ending_at : ℕ → Option ℕ → Unsigned
-unsigned_ending_at q none = U.Malformed
-unsigned_ending_at q (some n) = U.Value n q
-
--- the bytes w at place p as a number that carries no minus
-unfoldable pub as_unsigned : List ℕ → ℕ → Unsigned
-as_unsigned w p = unsigned_ending_at (p + length w) (unsigned w)
+-- the bytes w at place p as a number that carries no minus, and the place behind them
+unfoldable pub as_unsigned : List ℕ → ℕ → Option Unsigned
+as_unsigned w p = option_map (λ n. record { value = n; end = p + length w }) (unsigned w)
 
 -- the digits at the front of a text from place p on, and its first word, as a number that carries no minus
-abbrev pub digits_at : List ℕ → ℕ → Unsigned
+abbrev pub digits_at : List ℕ → ℕ → Option Unsigned
 digits_at l p = as_unsigned (front is_digit l) p
 
-abbrev pub unsigned_at : List ℕ → ℕ → Unsigned
+abbrev pub unsigned_at : List ℕ → ℕ → Option Unsigned
 unsigned_at l p = as_unsigned (front is_in_word l) p
 
-abbrev pub is_negative : ℤ → Bool
-is_negative (pos n) = false
-is_negative (negsuc n) = true
-
-abbrev pub number_ending_at : ℕ → Option ℤ → Number
-number_ending_at q none = N.Malformed
-number_ending_at q (some z) = N.Value (is_negative z) (nat_abs z) (record { at = q })
+-- the word w at place p as a number, and the place behind it
+unfoldable pub as_number : List ℕ → ℕ → Option Number
+as_number w p = option_map (λ z. record { minus = is_negative z; magnitude = nat_abs z; next = record { at = p + length w } }) (number w)
 
 -- the first word of a text from place p on, as a number
-unfoldable pub number_at : List ℕ → ℕ → Number
-number_at l p = number_ending_at (p + length (front is_in_word l)) (number (front is_in_word l))
+abbrev pub number_at : List ℕ → ℕ → Option Number
+number_at l p = as_number (front is_in_word l) p
 
 -- a step in a line comes to what follows a part of it, or does not if that part is missing
-abbrev pub Reaches : List ℕ → Option (List ℕ) → PartEnd → Type 0
-Reaches line rest S.Missing = rest ≡ none
-Reaches line rest (S.At p) = (rest ≡ some (drop p line)) × (p ≤ length line)
-
--- the sizes that a header line gives
-abbrev pub as_header_line : Option Sizes → HeaderLine
-as_header_line none = L.Malformed
-as_header_line (some s) = L.Sized s.nets s.clauses
+abbrev pub Reaches : List ℕ → Option (List ℕ) → Option ℕ → Type 0
+Reaches line rest None = rest ≡ None
+Reaches line rest (Some p) = (rest ≡ Some (drop p line)) × (p ≤ length line)
 
 -- place p is the first byte of a line
 unfoldable pub starts_line : List ℕ → ℕ → Bool
@@ -86,11 +60,11 @@ words_within (l ∷ ls) = words l ++ words_of ls
 unfoldable pub words_from : List ℕ → ℕ → List Stretch
 words_from text p = cond (starts_line text p) (words_of (lines p (drop p text))) (words_within (lines p (drop p text)))
 
--- what is found of the header: a body of the given words starts at place q, or the header is malformed
-abbrev pub HeaderFound : List ℕ → Header → Type 0
-HeaderFound text (H.Malformed p) = heading_of text ≡ malformed p
-HeaderFound text (H.Sized v c q) =
-    (ls : List Stretch) × (heading_of text ≡ sized (record { nets = v; clauses = c }) ls) × (words_of ls ≡ words_from text q) × (q ≤ length text)
+-- what is found of the header: V, C and a place from which the body's words go on; or that it is missing or malformed, and where
+abbrev pub HeaderFound : List ℕ → Result Header Refusal → Type 0
+HeaderFound text (Ok h) =
+    (ls : List Stretch) × (heading_of text ≡ sized h.sizes ls) × (words_of ls ≡ words_from text h.body) × (h.body ≤ length text)
+HeaderFound text (Err r) = (p : ℕ) × (r ≡ HeaderRefusal p) × (heading_of text ≡ malformed p)
 
 -- a word starts at place p
 pub record StartsWord (text : List ℕ) (p : ℕ) : Type 0 where
@@ -105,17 +79,17 @@ pub record NextWord (text : List ℕ) (p r : ℕ) : Type 0 where
   pub word_starts : r < length text → StartsWord text r
 
 -- the tally after the numbers of more words, or refusal 3 at the first one that is not a number
-unfoldable pub scanned : ℕ → EntryTally → List Stretch → Scan
-scanned v t [] = C.Numbers t
-scanned v t (w ∷ ws) = elim (number w.bytes) [ none ↦ C.Refused (Word w.place) | some z ↦ scanned v (step v t (nat_abs z)) ws ]
+unfoldable pub scanned : ℕ → EntryTally → List Stretch → Result EntryTally Refusal
+scanned v t [] = Ok t
+scanned v t (w ∷ ws) = elim (number w.bytes) [ None ↦ Err (Word w.place) | Some z ↦ scanned v (step v t (nat_abs z)) ws ]
 
-unfoldable pub scanned_from : List ℕ → ℕ → ℕ → Scan
+unfoldable pub scanned_from : List ℕ → ℕ → ℕ → Result EntryTally Refusal
 scanned_from text p v = scanned v start (words_from text p)
 
 -- the numbers of words, up to the first one that is not a number
 unfoldable pub numbers_of : List Stretch → List ℤ
 numbers_of [] = []
-numbers_of (w ∷ ws) = elim (number w.bytes) [ none ↦ [] | some z ↦ z ∷ numbers_of ws ]
+numbers_of (w ∷ ws) = elim (number w.bytes) [ None ↦ [] | Some z ↦ z ∷ numbers_of ws ]
 
 -- the numbers from place p on
 abbrev pub numbers_from : List ℕ → ℕ → List ℤ

@@ -1,104 +1,91 @@
 // The header of a text.
 
-ghost use Rattle.std.specs.Prelude.{◌≡◌, ◌+◌, ◌≤◌, ◌<◌, length, drop};
+ghost use Rattle.std.specs.Prelude.{◌≡◌, ◌≤◌, ◌<◌, length, drop};
+ghost use Rattle.clauses.specs.Bytes.{is_gap};
 ghost use Rattle.clauses.specs.Reading.{is_passed, after, after_gap, after_format, sizes, header_line};
-ghost use Rattle.clauses.specs.Scanning.{Reaches, as_header_line, HeaderFound};
+ghost use Rattle.clauses.specs.Scanning.{Reaches, HeaderFound};
 
-use crate::number::{Unsigned, read_digits};
-use crate::text::{Class, run_end};
+use crate::number::read_digits;
+use crate::refusal::Refusal;
+use crate::run::run_end;
+use crate::text::{blanks_end, is_blank, line_end};
 
 // V and C.
-#[derive(Clone, Copy)]
-pub enum HeaderLine {
-    Sized(u32, u32),
-    Malformed,
+#[derive(Clone, Copy, Debug, PartialEq, Eq)]
+pub struct Sizes {
+    pub nets: u32,
+    pub clauses: u32,
 }
 
-// V, C and the place where the body starts; or the place of refusal 2.
-#[derive(Clone, Copy)]
-pub enum Header {
-    Sized(u32, u32, usize),
-    Malformed(usize),
-}
-
-// A place behind a part of a line, if the part is there.
-#[derive(Clone, Copy)]
-pub enum PartEnd {
-    At(usize),
-    Missing,
+// V and C, and the place where the body starts.
+#[derive(Clone, Copy, Debug, PartialEq, Eq)]
+pub struct Header {
+    pub sizes: Sizes,
+    pub body: usize,
 }
 
 // The place behind a word, if the line goes on with it.
-pub fn word_end(line: &[u8], at: usize, word: &[u8]) -> PartEnd
+#[tactic(auto, using(crate::proofs::Headers::word_there, crate::proofs::Headers::word_missing))]
+pub fn word_end(line: &[u8], at: usize, word: &[u8]) -> Option<usize>
     requires { at ≤ length line.now }
     ensures { Reaches line.now (after word.now (drop at line.now)) result }
 {
-    let mut i = 0;
-    while i < word.len() {
-        if line.len() - at <= i {
-            return PartEnd::Missing;
-        }
-        if line[at + i] != word[i] {
-            return PartEnd::Missing;
-        }
-        i += 1;
+    if line[at..].starts_with(word) {
+        Some(at + word.len())
+    } else {
+        None
     }
-    PartEnd::At(at + word.len())
+}
+
+#[tactic(auto, unfolding(crate::specs::Bytes::is_gap))]
+fn is_gap(b: u8) -> bool
+    ensures { result ≡ is_gap b }
+{
+    matches!(b, b' ' | b'\t')
 }
 
 // The place behind one or more spaces or tabs, if the line goes on with them.
-fn gap_end(line: &[u8], at: usize) -> PartEnd
+fn gap_end(line: &[u8], at: usize) -> Option<usize>
     ensures { Reaches line.now (after_gap (drop at line.now)) result }
 {
-    let end = run_end(line, at, Class::Gap);
-    if end == at {
-        return PartEnd::Missing;
-    }
-    PartEnd::At(end)
+    let end = run_end(line, at, is_gap);
+    if end == at { None } else { Some(end) }
 }
 
 // The place of V in a line that has the form of a header up to there.
-fn format_end(line: &[u8]) -> PartEnd
+#[tactic(auto, unfolding(crate::specs::Reading::after_format))]
+fn format_end(line: &[u8]) -> Option<usize>
     ensures { Reaches line.now (after_format line.now) result }
 {
-    let PartEnd::At(gap) = word_end(line, 0, b"p") else {
-        return PartEnd::Missing;
-    };
-    let PartEnd::At(format) = gap_end(line, gap) else {
-        return PartEnd::Missing;
-    };
-    let PartEnd::At(gap) = word_end(line, format, b"cnf") else {
-        return PartEnd::Missing;
-    };
+    let gap = word_end(line, 0, b"p")?;
+    let format = gap_end(line, gap)?;
+    let gap = word_end(line, format, b"cnf")?;
     gap_end(line, gap)
 }
 
 // V and C, where the line has the form of a header from V on.
-fn read_sizes(line: &[u8], at: usize) -> HeaderLine
-    ensures { result ≡ as_header_line (sizes (drop at line.now)) }
+#[tactic(auto, using(crate::proofs::Headers::size_parts), unfolding(crate::specs::Reading::sizes))]
+fn read_sizes(line: &[u8], at: usize) -> Option<Sizes>
+    ensures { result ≡ sizes (drop at line.now) }
 {
-    let Unsigned::Value(v, gap) = read_digits(line, at) else {
-        return HeaderLine::Malformed;
-    };
-    let PartEnd::At(clauses) = gap_end(line, gap) else {
-        return HeaderLine::Malformed;
-    };
-    let Unsigned::Value(c, end) = read_digits(line, clauses) else {
-        return HeaderLine::Malformed;
-    };
-    if run_end(line, end, Class::Blank) != line.len() {
-        return HeaderLine::Malformed;
+    let nets = read_digits(line, at)?;
+    let gap = gap_end(line, nets.end)?;
+    let clauses = read_digits(line, gap)?;
+    if blanks_end(line, clauses.end) != line.len() {
+        return None;
     }
-    HeaderLine::Sized(v, c)
+    Some(Sizes {
+        nets: nets.value,
+        clauses: clauses.value,
+    })
 }
 
 // V and C of a line that has the form of a header.
-fn read_header(line: &[u8]) -> HeaderLine
-    ensures { result ≡ as_header_line (header_line line.now) }
+#[tactic(auto, unfolding(crate::specs::Reading::header_line))]
+fn read_header(line: &[u8]) -> Option<Sizes>
+    ensures { result ≡ header_line line.now }
 {
-    let PartEnd::At(nets) = format_end(line) else {
-        return HeaderLine::Malformed;
-    };
+    let nets = format_end(line)?;
     read_sizes(line, nets)
 }
 
@@ -106,29 +93,26 @@ fn read_header(line: &[u8]) -> HeaderLine
 fn is_passed(line: &[u8]) -> bool
     ensures { result ≡ is_passed line.now }
 {
-    if 0 < line.len() {
-        if line[0] == 99 {
-            return true;
-        }
-    }
-    run_end(line, 0, Class::Blank) == line.len()
+    line.starts_with(b"c") || line.iter().all(|b| is_blank(*b))
 }
 
-// The header of a text: the first line that is not passed over.
-pub fn find_header(text: &[u8]) -> Header
+// The header of a text: the first line that is not passed over. Where it has not the form of a header, or there is none, the text is refused.
+#[tactic(auto, using(crate::proofs::Bodies::header_lines))]
+pub fn find_header(text: &[u8]) -> Result<Header, Refusal>
     requires { length text.now < 18446744073709551615 }
     ensures { HeaderFound text.now result }
 {
     let mut at = 0;
     while at < text.len() {
-        let end = run_end(text, at, Class::Inline);
-        if !is_passed(&text[at..end]) {
-            let HeaderLine::Sized(v, c) = read_header(&text[at..end]) else {
-                return Header::Malformed(at);
+        let end = line_end(text, at);
+        let line = &text[at..end];
+        if !is_passed(line) {
+            let Some(sizes) = read_header(line) else {
+                return Err(Refusal::Header(at));
             };
-            return Header::Sized(v, c, end);
+            return Ok(Header { sizes, body: end });
         }
         at = end + 1;
     }
-    Header::Malformed(text.len())
+    Err(Refusal::Header(text.len()))
 }

@@ -1,93 +1,97 @@
 // Numbers in a text.
 
-ghost use Rattle.std.specs.Prelude.{◌≡◌, ◌+◌, ◌<◌, ◌≤◌, length, drop};
-ghost use Rattle.clauses.specs.Bytes.{is_digit, front};
+ghost use Rattle.std.specs.Prelude.{◌≡◌, true, ◌≤◌, length, drop};
+ghost use Rattle.clauses.specs.Bytes.{is_digit, every};
 ghost use Rattle.clauses.specs.Number.{value};
 ghost use Rattle.clauses.specs.Scanning.{digits_at, unsigned_at, number_at};
 
-use crate::text::{Class, Cursor, is_blank, run_end};
+use crate::text::{Cursor, digits_end, is_blank};
 
 // A number that carries no minus, and the place behind it.
-#[derive(Clone, Copy)]
-pub enum Unsigned {
-    Value(u32, usize),
-    Malformed,
+#[derive(Clone, Copy, Debug, PartialEq, Eq)]
+pub struct Unsigned {
+    pub value: u32,
+    pub end: usize,
 }
 
 // A number's sign and magnitude, and the cursor behind it.
-#[derive(Clone, Copy)]
-pub enum Number {
-    Value(bool, u32, Cursor),
-    Malformed,
+#[derive(Clone, Copy, Debug, PartialEq, Eq)]
+pub struct Number {
+    pub minus: bool,
+    pub magnitude: u32,
+    pub next: Cursor,
 }
 
-// The value of a run of at most nine digits.
-fn digits_value(text: &[u8], at: usize, end: usize) -> u32
-    requires { (end ≡ at + length (front is_digit (drop at text.now))) × (end ≤ at + 9) }
-    ensures { (result ≡ value 0 (front is_digit (drop at text.now))) × (result < 1000000000) }
+// The value of at most nine digits.
+fn digits_value(digits: &[u8]) -> u32
+    requires { (every is_digit digits.now ≡ true) × (length digits.now ≤ 9) }
+    ensures { result ≡ value 0 digits.now }
 {
-    let mut n: u32 = 0;
-    let mut i = at;
-    while i < end {
-        n = 10 * n + ((text[i] - 48) as u32);
-        i += 1;
+    let mut n = 0;
+    for digit in digits {
+        n = 10 * n + u32::from(*digit - b'0');
     }
     n
 }
 
 // The longest run of digits at a place, as a number.
-pub fn read_digits(text: &[u8], at: usize) -> Unsigned
+#[tactic(auto, using(crate::proofs::Words::digit_runs))]
+pub fn read_digits(text: &[u8], at: usize) -> Option<Unsigned>
     ensures { result ≡ digits_at (drop at text.now) at }
 {
-    let end = run_end(text, at, Class::Digit);
+    let end = digits_end(text, at);
     if end == at {
-        return Unsigned::Malformed;
+        return None;
     }
-    if at + 9 < end {
-        return Unsigned::Malformed;
+    let digits = &text[at..end];
+    if digits.len() > 9 {
+        return None;
     }
-    if at + 1 < end {
-        if text[at] == 48 {
-            return Unsigned::Malformed;
-        }
+    if let [b'0', _, ..] = digits {
+        return None;
     }
-    Unsigned::Value(digits_value(text, at, end), end)
+    Some(Unsigned {
+        value: digits_value(digits),
+        end,
+    })
 }
 
 // The rest of a word, as a number that carries no minus.
-fn read_unsigned(text: &[u8], at: usize) -> Unsigned
+#[tactic(auto, using(crate::proofs::Words::word_ends))]
+fn read_unsigned(text: &[u8], at: usize) -> Option<Unsigned>
     ensures { result ≡ unsigned_at (drop at text.now) at }
 {
-    let Unsigned::Value(m, end) = read_digits(text, at) else {
-        return Unsigned::Malformed;
-    };
-    if end < text.len() {
-        if !is_blank(text[end]) {
-            return Unsigned::Malformed;
-        }
+    let number = read_digits(text, at)?;
+    if number.end < text.len() && !is_blank(text[number.end]) {
+        return None;
     }
-    Unsigned::Value(m, end)
+    Some(number)
 }
 
 // The word at a cursor, as a number.
-pub fn read_number(text: &[u8], cursor: Cursor) -> Number
+#[tactic(auto, using(crate::proofs::Words::number_forms))]
+pub fn read_number(text: &[u8], cursor: Cursor) -> Option<Number>
     ensures { result ≡ number_at (drop cursor.at text.now) cursor.at }
 {
     let at = cursor.at;
     if text.len() <= at {
-        return Number::Malformed;
+        return None;
     }
-    if text[at] != 45 {
-        let Unsigned::Value(m, end) = read_unsigned(text, at) else {
-            return Number::Malformed;
-        };
-        return Number::Value(false, m, Cursor { at: end });
+    if text[at] != b'-' {
+        let magnitude = read_unsigned(text, at)?;
+        return Some(Number {
+            minus: false,
+            magnitude: magnitude.value,
+            next: Cursor { at: magnitude.end },
+        });
     }
-    let Unsigned::Value(m, end) = read_unsigned(text, at + 1) else {
-        return Number::Malformed;
-    };
-    if m == 0 {
-        return Number::Malformed;
+    let magnitude = read_unsigned(text, at + 1)?;
+    if magnitude.value == 0 {
+        return None;
     }
-    Number::Value(true, m, Cursor { at: end })
+    Some(Number {
+        minus: true,
+        magnitude: magnitude.value,
+        next: Cursor { at: magnitude.end },
+    })
 }

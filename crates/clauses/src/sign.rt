@@ -12,6 +12,7 @@ pub fn inverse(x: u32) -> u32
 }
 
 // Whether the literal is an inverse.
+#[tactic(auto, unfolding(crate::specs::Sign::is_inverse))]
 pub fn is_inverse(code: u32) -> bool
     ensures { result ≡ is_inverse code }
 {

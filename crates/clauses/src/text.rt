@@ -1,78 +1,47 @@
-// Bytes of a text, and runs of bytes of one class.
+// Bytes of a text, and their runs.
 
-ghost use Rattle.std.specs.Prelude.{◌≡◌, ◌+◌, length, drop};
-ghost use Rattle.clauses.specs.Bytes.{is_blank, is_gap, is_digit, front};
-ghost use Rattle.clauses.specs.Scanning.{is_in};
+ghost use Rattle.std.specs.Prelude.{◌≡◌, not, ◌+◌, eqb, length, drop};
+ghost use Rattle.clauses.specs.Bytes.{lf, is_blank, is_digit, front};
+
+use crate::run::run_end;
 
 // A place in a text.
-#[derive(Clone, Copy)]
+#[derive(Clone, Copy, Debug, PartialEq, Eq)]
 pub struct Cursor {
     pub at: usize,
 }
 
-#[derive(Clone, Copy)]
-pub enum Class {
-    Digit,
-    Gap,
-    Blank,
-    Inline,
-}
-
+#[tactic(auto, unfolding(crate::specs::Bytes::is_digit))]
 fn is_digit(b: u8) -> bool
     ensures { result ≡ is_digit b }
 {
-    if b < 48 {
-        return false;
-    }
-    b <= 57
+    b.is_ascii_digit()
 }
 
-fn is_gap(b: u8) -> bool
-    ensures { result ≡ is_gap b }
-{
-    if b == 32 {
-        return true;
-    }
-    b == 9
-}
-
+#[tactic(auto, unfolding(crate::specs::Bytes::is_blank))]
 pub fn is_blank(b: u8) -> bool
     ensures { result ≡ is_blank b }
 {
-    if b == 32 {
-        return true;
-    }
-    if b == 9 {
-        return true;
-    }
-    if b == 13 {
-        return true;
-    }
-    b == 10
+    b == b' ' || b == b'\t' || b == b'\r' || b == b'\n'
 }
 
-// Whether a byte belongs to a class.
-fn is_in(class: Class, b: u8) -> bool
-    ensures { result ≡ is_in class b }
+// The end of a run of digits.
+pub fn digits_end(text: &[u8], at: usize) -> usize
+    ensures { result ≡ at + length (front is_digit (drop at text.now)) }
 {
-    match class {
-        Class::Digit => is_digit(b),
-        Class::Gap => is_gap(b),
-        Class::Blank => is_blank(b),
-        Class::Inline => b != 10,
-    }
+    run_end(text, at, is_digit)
 }
 
-// The end of the run of a class that starts at a place, which may be empty.
-pub fn run_end(text: &[u8], at: usize, class: Class) -> usize
-    ensures { result ≡ at + length (front (is_in class) (drop at text.now)) }
+// The end of a run of blanks.
+pub fn blanks_end(text: &[u8], at: usize) -> usize
+    ensures { result ≡ at + length (front is_blank (drop at text.now)) }
 {
-    let mut i = at;
-    while i < text.len() {
-        if !is_in(class, text[i]) {
-            return i;
-        }
-        i += 1;
-    }
-    i
+    run_end(text, at, is_blank)
+}
+
+// The end of a line, from a place in it on.
+pub fn line_end(text: &[u8], at: usize) -> usize
+    ensures { result ≡ at + length (front (λ b. not (eqb b lf)) (drop at text.now)) }
+{
+    run_end(text, at, |b| b != b'\n')
 }

@@ -18,16 +18,13 @@ pub fn put_bytes(text: &mut [u8], at: usize, bytes: &[u8]) -> usize
     requires { at + length bytes.now ≤ length text.old }
     ensures { Wrote text.old at bytes.now text.new result }
 {
-    let mut next = at;
-    let mut i = 0;
-    while i < bytes.len() {
-        next = put(text, next, bytes[i]);
-        i += 1;
-    }
-    next
+    let end = at + bytes.len();
+    text[at..end].copy_from_slice(bytes);
+    end
 }
 
 // Puts a number in decimal; the place after it.
+#[tactic(auto, using(crate::proofs::Decimals::lengths))]
 pub fn put_decimal(text: &mut [u8], at: usize, n: u64) -> usize
     requires { at + length (decimal n) ≤ length text.old }
     ensures { Wrote text.old at (decimal n) text.new result }
@@ -50,6 +47,7 @@ pub fn put_word(text: &mut [u8], at: usize, n: u64, b: u8) -> usize
 }
 
 // How many digits a number has.
+#[tactic(auto, using(crate::proofs::Decimals::lengths))]
 pub fn decimal_length(n: u64) -> usize
     ensures { result ≡ length (decimal n) }
 {

@@ -6,9 +6,9 @@ use mathlib.Core.Bool.{true}
 use mathlib.Core.List.{List}
 use Prim.Native.Nat.{ℕ, ◌+◌, ◌%◌, ◌≤◌, ◌<◌}
 use native.Mathlib.Omega.{arith}
-use native.Mathlib.Decide.{ℕ_discrete, dec_lt}
+use native.Mathlib.Decide.{ℕ_discrete}
 use lib.ListN.{length, get_or}
-use borrow.Author.Tests.{eq-eqb, eqb-true, eqb-false}
+use borrow.Author.Tests.{eq-eqb, eqb-true}
 use Rattle.clauses.specs.Code.{negate, net}
 use Rattle.clauses.specs.Clause.{Same}
 use Rattle.clauses.proofs.Codes.{negate_negate, net_negate, negate_inj}
@@ -16,14 +16,14 @@ use Rattle.clauses.proofs.Clauses.{same_sym}
 use Rattle.gates.specs.Gate.{Input, AndGate}
 use Rattle.gates.specs.Found.{is_and, Found}
 use Rattle.clauses.specs.Row.{clause_at, Starts, LiteralAt}
-use Rattle.clauses.proofs.Rows.{literal_in, literal_of, literal_some, clause_ended}
+use Rattle.clauses.proofs.Rows.{literal_in, literal_of}
 use Rattle.gates.proofs.Ands.{input_same}
 use Rattle.rules.specs.Rule.{Concludes}
 use Rattle.rules.specs.Grouping.{Closure}
 use Rattle.rules.specs.Answer.{lead_of}
 use Rattle.closure.specs.Making.{Kernel, Drawn, Making, JoinedBy, Later, Rule3}
 use Rattle.closure.specs.Joining.{join_state}
-use Rattle.closure.specs.Passing.{lead_at, is_other, is_ending, First, with_true, with_inverse, Clash, AndJoined}
+use Rattle.closure.specs.Passing.{lead_at, is_other, First, with_true, with_inverse, Clash, AndJoined}
 use Rattle.closure.specs.Marked.{Marked, Ready, Went}
 use Rattle.closure.specs.declared.tally.Tally.{Tally}
 use Rattle.closure.proofs.Searches.{lead_false, lead_true, lead_negate, other_is, not_other}
@@ -272,17 +272,6 @@ is-and mark h = eq-eqb _ _ h
 pub not_and : (mark : ℕ) → mark % 2 ≢ 1 → is_and mark ≢ true
 unfolding is_and
 not_and mark n h = n (eqb-true _ _ h)
-
--- the ending of the clause of a literal
-pub ending_is : (row : List ℕ) (b p e : ℕ) → LiteralAt row b p → b + length (clause_at row b) < length row → First (is_ending row) p (length row) e
-    → e ≡ b + length (clause_at row b)
-unfolding is_ending
-ending_is row b p e k h f = go (dec_lt e (b + length (clause_at row b))) (dec_lt (b + length (clause_at row b)) e)
-  where
-    go : Dec (e < b + length (clause_at row b)) → Dec (b + length (clause_at row b) < e) → e ≡ b + length (clause_at row b)
-    go (yes l) d = absurd (literal_some row b e (omega (arith, k.low, f.low)) l (eqb-true _ _ (f.here (omega arith))))
-    go (no l) (yes m) = absurd (eqb-false _ _ (f.before (b + length (clause_at row b)) (omega (arith, k.high)) m) (clause_ended row b))
-    go (no l) (no m) = omega arith
 
 pub and_later : {row old new new' : List ℕ} {t t' : Tally} {b p : ℕ} → Later new t new' t' → AndJoined row old new t b p → AndJoined row old new' t' b p
 and_later f a =

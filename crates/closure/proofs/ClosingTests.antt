@@ -8,6 +8,7 @@ use native.Mathlib.Omega.{arith}
 use borrow.Author.Tests.{lt-ltb, le-ltb, ltb-false, not-false}
 use lib.IntN.{ℤ}
 use lib.ListN.{length}
+use Rattle.std.specs.Prelude.{Result, Ok, Err}
 use Rattle.clauses.specs.Clause.{clauses_of}
 use Rattle.clauses.specs.Listing.{Fits}
 use Rattle.clauses.specs.Refusal.{Test, decide, is_ended, entry_tests}
@@ -15,18 +16,14 @@ use Rattle.clauses.specs.Tally.{tally_of}
 use Rattle.clauses.specs.Check.{check_sizes, check_entries}
 use Rattle.clauses.specs.declared.refusal.Refusal.{Refusal}
 use Rattle.clauses.specs.declared.refusal.Refusal.TheVariants.{LeadsTooShort, WorkTooShort}
-use Rattle.clauses.specs.declared.checks.Check.{Check}
-use Rattle.clauses.specs.declared.checks.Check.TheVariants as K
 use Rattle.clauses.proofs.Deciding.{NoneHolds, decide_accepted, decide_none_holds}
 use Rattle.clauses.proofs.Fitting.{entries_fit}
-use Rattle.clauses.proofs.Tests.{passed_none_holds, decide_append, decide_passed, decide_refused, sizes_passed, sizes_refused}
+use Rattle.clauses.proofs.Tests.{passed, passed_none_holds, decide_append, decide_passed, decide_refused, sizes_passed, sizes_refused}
 use Rattle.rules.specs.declared.Verdict.TheVariants.{Unfinished}
 use Rattle.rules.specs.Compute.{answer}
 use Rattle.closure.specs.Closing.{max_work, leads_too_short, work_too_short, list_tests, check_list, Outcome, refused, accepted, closing_tests, closing}
 use Rattle.closure.specs.Passed.{Passed, close_rounds}
 use Rattle.closure.specs.declared.close.Summary.{Summary}
-use Rattle.closure.specs.declared.close.Closing.{Closing}
-use Rattle.closure.specs.declared.close.Closing.TheVariants.{Accepted, Refused}
 use Rattle.rules.proofs.Theorems.{rounds_bound, answer_finished}
 
 -- A check of the list
@@ -36,21 +33,21 @@ module _ (v c : ℕ) (row : List ℤ) (leads work : ℕ) where
   abbrev others : List Test
   others = leads_too_short v leads ∷ work_too_short work ∷ entry_tests v c row
 
-  pub list_sizes : (r : Refusal) → check_sizes v c (length row) ≡ K.Refused r → check_list v c row leads work ≡ K.Refused r
+  pub list_sizes : (r : Refusal) → check_sizes v c (length row) ≡ Err r → check_list v c row leads work ≡ Err r
   unfolding check_list
-  list_sizes r e = sizes_refused K.Refused K.Passed v c row others r e
+  list_sizes r e = sizes_refused Err passed v c row others r e
 
-  module _ (e : check_sizes v c (length row) ≡ K.Passed) where
-    behind_sizes : check_list v c row leads work ≡ decide K.Refused K.Passed others
+  module _ (e : check_sizes v c (length row) ≡ passed) where
+    behind_sizes : check_list v c row leads work ≡ decide Err passed others
     unfolding check_list
-    behind_sizes = sizes_passed K.Refused K.Passed v c row others e
+    behind_sizes = sizes_passed Err passed v c row others e
 
-    pub list_leads : leads < v → check_list v c row leads work ≡ K.Refused LeadsTooShort
+    pub list_leads : leads < v → check_list v c row leads work ≡ Err LeadsTooShort
     unfolding decide
     list_leads h = behind_sizes ∙ rw (lt-ltb _ _ h)
 
     module _ (h : v ≤ leads) where
-      pub list_work : work < max_work → check_list v c row leads work ≡ K.Refused WorkTooShort
+      pub list_work : work < max_work → check_list v c row leads work ≡ Err WorkTooShort
       unfolding decide
       list_work k = behind_sizes ∙ rw (le-ltb _ _ h, lt-ltb _ _ k)
 
@@ -69,16 +66,16 @@ unfolding closing closing_tests close_rounds
 closing_parts v c row limit leads work = decide_append (refused leads work) _ (list_tests v c row (length leads) (length work)) _
 
 module _ (v c : ℕ) (row : List ℤ) (leads work : List ℕ) where
-  abbrev check : Check
+  abbrev check : Result (Unit {0}) Refusal
   check = check_list v c row (length leads) (length work)
 
-  pub closing_refused : (limit : ℕ) (r : Refusal) → check ≡ K.Refused r → closing v c row limit leads work ≡ refused leads work r
+  pub closing_refused : (limit : ℕ) (r : Refusal) → check ≡ Err r → closing v c row limit leads work ≡ refused leads work r
   unfolding check_list
   closing_refused limit r h =
       closing_parts v c row limit leads work
       ∙ decide_refused (refused leads work) (close_rounds v row limit leads work) (list_tests v c row (length leads) (length work)) r h
 
-  pub closing_rounds : (limit : ℕ) → check ≡ K.Passed → closing v c row limit leads work ≡ close_rounds v row limit leads work
+  pub closing_rounds : (limit : ℕ) → check ≡ passed → closing v c row limit leads work ≡ close_rounds v row limit leads work
   unfolding check_list
   closing_rounds limit h =
       closing_parts v c row limit leads work
@@ -95,7 +92,7 @@ module _ (v c : ℕ) (row : List ℤ) (leads work : List ℕ) where
         ended = not-false (is_ended row) n.1.1.1.1.1.1.0;
       }
 
-  pub list_passed : check ≡ K.Passed → Passed v row leads work
+  pub list_passed : check ≡ passed → Passed v row leads work
   unfolding check_list
   list_passed h = none_holds_passed (passed_none_holds (list_tests v c row (length leads) (length work)) h)
 
@@ -114,9 +111,9 @@ module _ (v : ℕ) (row : List ℤ) (limit : ℕ) (leads work : List ℕ) (fit :
   rounds_accepted = rw (le-ltb _ _ never_too_many)
 
 -- what the result tells: it is an acceptance
-is_accepted : Closing → Type 0
-is_accepted (Accepted s) = Unit {0}
-is_accepted (Refused r) = ⊥
+is_accepted : Result Summary Refusal → Type 0
+is_accepted (Ok s) = Unit {0}
+is_accepted (Err r) = ⊥
 
 abbrev Passes : Outcome → Type 0
 Passes o = is_accepted o.result
@@ -125,7 +122,7 @@ refused_fails : (leads work : List ℕ) (r : Refusal) → Passes (refused leads 
 unfolding refused is_accepted
 refused_fails leads work r p = p
 
-module _ (v c : ℕ) (row : List ℤ) (limit : ℕ) (leads work : List ℕ) (s : Summary) (h : (closing v c row limit leads work).result ≡ Accepted s) where
+module _ (v c : ℕ) (row : List ℤ) (limit : ℕ) (leads work : List ℕ) (s : Summary) (h : (closing v c row limit leads work).result ≡ Ok s) where
   none_holds : NoneHolds (list_tests v c row (length leads) (length work))
   unfolding is_accepted
   none_holds = decide_none_holds (refused leads work) (close_rounds v row limit leads work) Passes (refused_fails leads work) (list_tests v c row (length leads) (length work)) (rw (← closing_parts v c row limit leads work, h) tt)

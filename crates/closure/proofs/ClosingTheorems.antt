@@ -9,6 +9,7 @@ use native.Mathlib.Omega.{arith}
 use lib.IntN.{ℤ}
 use lib.ListN.{length, get_or, take, drop, length-replicate}
 use lib.Seq.{take_at}
+use Rattle.std.specs.Prelude.{Result, Ok, Err}
 use Rattle.clauses.specs.Code.{net}
 use Rattle.clauses.specs.Clause.{clauses_of, Included}
 use Rattle.clauses.specs.Listing.{mem, Fits}
@@ -22,7 +23,6 @@ use Rattle.clauses.proofs.Deciding.{NoneHolds, is_among, decide_among}
 use Rattle.rules.specs.declared.Verdict.{Verdict}
 use Rattle.rules.specs.declared.Verdict.TheVariants.{Contradiction, Settled, Unfinished}
 use Rattle.closure.specs.declared.close.Summary.{Summary}
-use Rattle.closure.specs.declared.close.Closing.TheVariants.{Accepted, Refused}
 use Rattle.rules.specs.Grouping.{After}
 use Rattle.rules.specs.Ending.{Allows}
 use Rattle.rules.specs.Answer.{Answer, Leads, on_contradiction, otherwise, no_lead, IsAnswer, Joined}
@@ -49,11 +49,11 @@ pub groups_few : {v : ℕ} {G : ℕ → ℕ → Type 0} {w : Verdict} {g : ℕ} 
 groups_few on_contradiction = omega arith
 groups_few {v} {l = l} (otherwise d s f) = own_length v l
 
-accepted_same : {s t : Summary} → Accepted s ≡ Accepted t → s ≡ t
+accepted_same : {s t : Summary} → ◌≡◌ {A = Result Summary Refusal} (Ok s) (Ok t) → s ≡ t
 accepted_same e = cc
 
 -- an accepted list has an answer
-pub accepted_answers : (v c : ℕ) (row : List ℤ) (limit : ℕ) (leads work : List ℕ) (s : Summary) → (closing v c row limit leads work).result ≡ Accepted s
+pub accepted_answers : (v c : ℕ) (row : List ℤ) (limit : ℕ) (leads work : List ℕ) (s : Summary) → (closing v c row limit leads work).result ≡ Ok s
     → (a : Answer) × Answers v c row limit leads work a
 accepted_answers v c row limit leads work s h = (
   record {
@@ -190,16 +190,16 @@ unfolding numbered closing_tests
 closing_numbered v c row limit leads work = refl
 
 -- Refusal 14 is never given.
-pub never_fourteen : (v c : ℕ) (row : List ℤ) (limit : ℕ) (leads work : List ℕ) → (closing v c row limit leads work).result ≢ Refused TooManyRounds
+pub never_fourteen : (v c : ℕ) (row : List ℤ) (limit : ℕ) (leads work : List ℕ) → (closing v c row limit leads work).result ≢ Err TooManyRounds
 unfolding refused accepted all any mem is_among
 never_fourteen v c row limit leads work =
     rw (closing_parts v c row limit leads work)
     (decide_among (refused leads work) (close_rounds v row limit leads work) Other (5 ∷ 6 ∷ 7 ∷ 8 ∷ 9 ∷ 10 ∷ 11 ∷ 12 ∷ []) early (list_tests v c row (length leads) (length work)) refl late)
   where
     Other : Outcome → Type 0
-    Other o = o.result ≢ Refused TooManyRounds
+    Other o = o.result ≢ Err TooManyRounds
 
-    early : (r : Refusal) → mem (number_of r) (5 ∷ 6 ∷ 7 ∷ 8 ∷ 9 ∷ 10 ∷ 11 ∷ 12 ∷ []) ≡ true → Refused r ≡ Refused TooManyRounds → ⊥
+    early : (r : Refusal) → mem (number_of r) (5 ∷ 6 ∷ 7 ∷ 8 ∷ 9 ∷ 10 ∷ 11 ∷ 12 ∷ []) ≡ true → ◌≡◌ {A = Result Summary Refusal} (Err r) (Err TooManyRounds) → ⊥
     early r h e = let same : r ≡ TooManyRounds = cc in false≢true (rw same at h)
 
     late : NoneHolds (list_tests v c row (length leads) (length work)) → Other (close_rounds v row limit leads work)

@@ -6,6 +6,7 @@ use mathlib.Core.List.{List, ◌++◌, map}
 use Prim.Native.Nat.{ℕ, ◌+◌, ◌-◌, ◌≤◌}
 use lib.IntN.{ℤ}
 use lib.ListN.{length, get_or, take, drop, replicate}
+use Rattle.std.specs.Prelude.{Ok}
 use Rattle.clauses.specs.Code.{code_of}
 use Rattle.clauses.specs.Clause.{clauses_in, clauses_of, Present}
 use Rattle.clauses.proofs.Fitting.{entries_fit}
@@ -21,7 +22,6 @@ use Rattle.gates.proofs.NormalForm.{normal_has, normal_clauses, normal_present, 
 use Rattle.gates.proofs.Counting.{same_with, counted_once}
 use Rattle.gates.proofs.Counted.{ands_counted, xors_counted, ites_counted}
 use Rattle.rules.specs.declared.Verdict.{Verdict}
-use Rattle.closure.specs.declared.close.Closing.TheVariants.{Accepted}
 use Rattle.rules.specs.Answer.{Answer, own}
 use Rattle.rules.specs.Compute.{ended, closed, tally, answer}
 use Rattle.closure.specs.Closing.{max_work, summary, accepted}
@@ -59,12 +59,12 @@ module _ (v : ℕ) (row : List ℤ) (limit : ℕ) (leads work : List ℕ) (fit :
   found_bound = subst (λ (b : Answer). b.rounds ≤ v + 1) (sym found_answer) (never_too_many v row limit leads work fit)
 
   found_accepted : (leads' work' : List ℕ) → leads' ≡ l ++ drop v leads → work' ≡ replicate max_work 0 ++ drop max_work work
-      → record { result = Accepted (summary found); leads = leads'; work = work' } ≡ close_rounds v row limit leads work
+      → record { result = Ok (summary found); leads = leads'; work = work' } ≡ close_rounds v row limit leads work
   unfolding accepted
   found_accepted leads' work' p q =
       rows ∙ ap (accepted v leads work) found_answer ∙ sym (rounds_accepted v row limit leads work fit)
     where
-      rows : record { result = Accepted (summary found); leads = leads'; work = work' } ≡ accepted v leads work found
+      rows : record { result = Ok (summary found); leads = leads'; work = work' } ≡ accepted v leads work found
       rows = rw (p, q)
 
 -- By the steps of closing
@@ -116,7 +116,7 @@ module _ (v : ℕ) (row : List ℤ) (limit : ℕ) (leads work : List ℕ) (p : P
       found_bound v row limit leads work (entries_fit v row p.within) (clauses_in (take m codes)) q.fits q.same a x i counts w n g r.last r.ends r.left
 
   pub steps_accepted : (zeros : List ℕ) → zeros ≡ replicate max_work 0
-      → record { result = Accepted (record { verdict = w; rounds = n; ands = a; xors = x; ites = i; groups = g }); leads = leads'; work = zeros ++ drop max_work work }
+      → record { result = Ok (record { verdict = w; rounds = n; ands = a; xors = x; ites = i; groups = g }); leads = leads'; work = zeros ++ drop max_work work }
       ≡ close_rounds v row limit leads work
   steps_accepted zeros e =
       found_accepted v row limit leads work (entries_fit v row p.within) (clauses_in (take m codes)) q.fits q.same a x i counts w n g r.last r.ends r.left

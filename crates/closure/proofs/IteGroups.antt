@@ -2,33 +2,38 @@
 -- Assumes nothing.
 use mathlib.Core.Path.{◌≡◌, refl, sym, ◌∙◌, ap, subst, subst⁻¹}
 use mathlib.Core.Logic.{◌≢◌, ◌⊎◌, inl, inr}
-use mathlib.Core.Bool.{Bool, true, false, not}
+use mathlib.Core.Bool.{true, false, not, true≢false}
 use mathlib.Core.List.{List}
+use Rattle.std.specs.Prelude.{Option, Some, None}
+use Rattle.std.specs.Option.{option_eq}
 use Prim.Native.Nat.{ℕ, zero, suc, ◌+◌, ◌-◌, ◌*◌, ◌/◌, ◌%◌, ◌≤◌, ◌<◌}
 use native.Mathlib.Omega.{arith}
 use native.Mathlib.Decide.{dec_lt, ℕ_discrete}
 use borrow.Author.Tests.{eq-eqb, ne_eqb}
 use lib.Dec.{eqb}
-use lib.ListN.{length, get_or, set, take, replicate, length-set}
-use lib.Seq.{get_or-set_same, get_or-set_other, get_or-take, length-take-le}
+use lib.ListN.{length, get_or, set, replicate, length-set}
+use lib.Seq.{get_or-set_same, get_or-set_other}
 use Rattle.clauses.specs.Code.{negate}
 use Rattle.clauses.proofs.Codes.{negate_negate}
-use Rattle.clauses.proofs.Chains.{WalkIn, walk_map, walk_begin, walk_next, walk_end, walk_falls}
+use Rattle.clauses.proofs.Chains as Chains
+use Rattle.clauses.proofs.Chains.{WalkIn, walk_begin, walk_end, walk_falls}
 use Rattle.clauses.proofs.Fills.{zero_at}
 use Rattle.rules.specs.Rule.{Concludes}
 use Rattle.rules.specs.Answer.{lead_of}
 use Rattle.closure.specs.Making.{Kernel, Making, fresh, JoinedBy}
 use Rattle.closure.specs.Joining.{join_state}
-use Rattle.closure.specs.Passing.{Tells}
 use Rattle.closure.specs.Marked.{Marked, Ready, Went}
-use Rattle.closure.specs.Table.{LastWith}
+use Rattle.closure.specs.Table.{LastSlot}
 use Rattle.closure.specs.IteSides.{InThree, select_at, output_at, then_at, IsSide, clause_of, Pair, pair_key, InHub, Hubs}
 use Rattle.closure.specs.RowJoined.{SideAt, IteAt, ItesJoined}
 use Rattle.closure.specs.Changes.{ChangedIn, ReadAt}
 use Rattle.closure.specs.Worklist.{OnList, Changed, HoldsChanged, HoldsAll}
-use Rattle.closure.specs.SideTable.{like_of, SideSlot, SideTable, EntryOff, SidesKnown, SideGroups, GroupJoined}
+use Rattle.closure.specs.SideTable.{like_of, SideSlot, EntryOff, SidesKnown, SideGroups, GroupJoined}
 use Rattle.closure.specs.IteGroups.{Alike, Held, Holders, Served, Matching, Matchable, IsLast, OneOutput}
+use Rattle.closure.specs.declared.table.KeyTable.{KeyTable}
+use Rattle.closure.specs.declared.hubs.SideHubs.{SideHubs}
 use Rattle.closure.specs.declared.tally.Tally.{Tally}
+use Rattle.closure.proofs.Tables.{KeyWalk, walk_begins, walk_inside, walk_next, walk_ends, walk_map}
 use Rattle.closure.proofs.Searches.{lead_negate}
 use Rattle.closure.proofs.JoinedBy.{drawn_new, joined_sym, joined_trans, joined_same}
 use Rattle.closure.proofs.Worklists.{past_end}
@@ -39,39 +44,6 @@ use Rattle.closure.proofs.Sides.{pair_once, side_inside, pair_gate, pair_back, o
 -- the lead of a side's literal t has a holder's place
 pub then_lead : {row marks old new : List ℕ} {t : Tally} → Ready row marks old new t → {s : ℕ} → IsSide row marks s → lead_of old (then_at row s) < 2 * length old + 2
 then_lead {row} r {s} i = omega (arith, then_net r i, r.leads.low (then_at row s))
-
--- The tests
-
-module _ (row : List ℕ) (k j : ℕ) where
-  pub no_select : select_at row j ≢ negate (select_at row k) → (marks : List ℕ) → ¬ Pair row marks k j
-  no_select n marks p = n p.selects
-
-  pub no_output : output_at row j ≢ output_at row k → (marks : List ℕ) → ¬ Pair row marks k j
-  no_output n marks p = n p.outputs
-
-  pub by_inverses : select_at row j ≡ negate (select_at row k) → output_at row j ≡ output_at row k → (marks : List ℕ) → IsSide row marks k → IsSide row marks j
-      → Tells (Pair row marks k j) (not (eqb (then_at row j) (negate (then_at row k))))
-  by_inverses e f marks a b = go (ℕ_discrete (then_at row j) (negate (then_at row k)))
-    where
-      go : Dec (then_at row j ≡ negate (then_at row k)) → Tells (Pair row marks k j) (not (eqb (then_at row j) (negate (then_at row k))))
-      go (yes q) = rw (eq-eqb (then_at row j) (negate (then_at row k)) q) (λ p. p.not_inverses q)
-      go (no n) = rw (ne_eqb (then_at row j) (negate (then_at row k)) n) (record { first = a; second = b; selects = e; outputs = f; not_inverses = n })
-
-module _ (row old : List ℕ) (i k : ℕ) where
-  pub by_thens : Kernel old (select_at row i) (select_at row k) → Tells (Alike row old i k) (eqb (lead_of old (then_at row i)) (lead_of old (then_at row k)))
-  by_thens e = go (ℕ_discrete (lead_of old (then_at row i)) (lead_of old (then_at row k)))
-    where
-      go : Dec (Kernel old (then_at row i) (then_at row k)) → Tells (Alike row old i k) (eqb (lead_of old (then_at row i)) (lead_of old (then_at row k)))
-      go (yes q) = rw (eq-eqb (lead_of old (then_at row i)) (lead_of old (then_at row k)) q) (record { selects = e; thens = q })
-      go (no n) = rw (ne_eqb (lead_of old (then_at row i)) (lead_of old (then_at row k)) n) (λ a. n a.thens)
-
-module _ (row old : List ℕ) (k f : ℕ) where
-  pub held_none : f ≡ 0 → ¬ Held row old k f
-  held_none e h = omega (arith, h.some)
-
-  pub held_alike : (r : Bool) → f ≢ 0 → Tells (Alike row old k (f - 1)) r → Tells (Held row old k f) r
-  held_alike true n h = record { some = omega arith; alike = h }
-  held_alike false n h = λ a. h a.alike
 
 -- Sides that are alike
 
@@ -196,8 +168,8 @@ module _ {row marks old : List ℕ} where
         joined = m.went.later _ _ v.joined;
       }
 
-  pub matchable_on : {hubs links holders holders' new new' : List ℕ} {t t' : Tally} → Matchable row marks hubs links old holders new t → Went row marks old new t new' t'
-      → Holders row marks old holders' → Matchable row marks hubs links old holders' new' t'
+  pub matchable_on : {N B : ℕ} {hubs : SideHubs N B} {holders holders' new new' : List ℕ} {t t' : Tally} → Matchable row marks hubs old holders new t → Went row marks old new t new' t'
+      → Holders row marks old holders' → Matchable row marks hubs old holders' new' t'
   matchable_on m w h = record { ready = ready_on m.ready w; holds = h; hubs_are = m.hubs_are }
 
 -- two ITEs with one holder
@@ -214,213 +186,171 @@ served_joined {row} {old} {holders} {new} {t} {k} {j} {m} {n} u v e =
 abbrev pub MatesTo : ℕ → List ℕ → List ℕ → List ℕ → List ℕ → List ℕ → Tally → ℕ → ℕ → ℕ → Type 0
 MatesTo m row marks old holders new t b k = WalkIn (InHub row marks m) (2 * length row) b (λ j. Pair row marks k j → Served row old holders new t k j)
 
-pub record Mating (row marks hubs old : List ℕ) (k : ℕ) (holders new : List ℕ) (t : Tally) (b : ℕ) (holders' new' : List ℕ) (t' : Tally) (j : ℕ) : Type 0 where
+pub record Mating (m : ℕ) (row marks old : List ℕ) (k : ℕ) (holders new : List ℕ) (t : Tally) (b : ℕ) (holders' new' : List ℕ) (t' : Tally) (j : ℕ) : Type 0 where
   pub matching : Matching row marks old k holders new t holders' new' t'
-  pub mates : MatesTo (length hubs) row marks old holders' new' t' b k j
+  pub mates : MatesTo m row marks old holders' new' t' b k j
 
-module _ {row marks hubs links old : List ℕ} (h : Hubs row marks hubs links) where
-  pub mating_begins : {holders new : List ℕ} {t : Tally} {b k : ℕ} → Holders row marks old holders → b < length hubs
-      → Mating row marks hubs old k holders new t b holders new t (get_or hubs b 0)
+module _ {N B : ℕ} {row marks old : List ℕ} {hubs : SideHubs N B} (h : Hubs row marks hubs) where
+  pub mating_begins : {holders new : List ℕ} {t : Tally} {b k : ℕ} → Holders row marks old holders → b < length hubs.heads
+      → Mating B row marks old k holders new t b holders new t (get_or hubs.heads b 0)
   mating_begins {b = b} {k = k} hs l =
-      record { matching = matching_none k hs; mates = walk_begin _ (2 * length row) b hubs links h.chains _ l }
+      record { matching = matching_none k hs; mates = walk_begin _ (2 * length row) b hubs.heads hubs.links h.chains _ l }
 
-  module _ {holders new holders' new' : List ℕ} {t t' : Tally} {b k j : ℕ} (m : Mating row marks hubs old k holders new t b holders' new' t' j) (l : 0 < j) where
+  module _ {holders new holders' new' : List ℕ} {t t' : Tally} {b k j : ℕ} (m : Mating B row marks old k holders new t b holders' new' t' j) (l : 0 < j) where
     pub mating_side : IsSide row marks (j - 1)
     mating_side = (m.mates.at l).is-side
 
-    pub mating_less : get_or links (j - 1) 0 < j
-    mating_less = walk_falls _ (2 * length row) b hubs links h.chains m.mates l
-
-    pub mating_inside : j - 1 < length links
-    mating_inside = omega (arith, m.mates.low, h.room)
+    pub mating_less : get_or hubs.links (j - 1) 0 < j
+    mating_less = walk_falls _ (2 * length row) b hubs.heads hubs.links h.chains m.mates l
 
     -- j makes no ITE with k
-    pub mating_skips : ¬ Pair row marks k (j - 1) → Mating row marks hubs old k holders new t b holders' new' t' (get_or links (j - 1) 0)
-    mating_skips n = record { matching = m.matching; mates = walk_next _ (2 * length row) b hubs links h.chains m.mates l (λ p. absurd (n p)) }
+    pub mating_skips : ¬ Pair row marks k (j - 1) → Mating B row marks old k holders new t b holders' new' t' (get_or hubs.links (j - 1) 0)
+    mating_skips n = record { matching = m.matching; mates = Chains.walk_next _ (2 * length row) b hubs.heads hubs.links h.chains m.mates l (λ p. absurd (n p)) }
 
     -- it does, and has been matched
     pub mating_on : {holders'' new'' : List ℕ} {t'' : Tally} → Matching row marks old k holders' new' t' holders'' new'' t'' × Served row old holders'' new'' t'' k (j - 1)
-        → Mating row marks hubs old k holders new t b holders'' new'' t'' (get_or links (j - 1) 0)
+        → Mating B row marks old k holders new t b holders'' new'' t'' (get_or hubs.links (j - 1) 0)
     mating_on (n, v) =
         record {
           matching = matching_then m.matching n;
           mates =
-              walk_next _ (2 * length row) b hubs links h.chains
-              (walk_map _ (2 * length row) b (λ i f p. served_on n (alike_self row old k) (f p)) m.mates) l (λ p. v);
+              Chains.walk_next _ (2 * length row) b hubs.heads hubs.links h.chains
+              (Chains.walk_map _ (2 * length row) b (λ i f p. served_on n (alike_self row old k) (f p)) m.mates) l (λ p. v);
         }
 
-  pub mating_ends : {holders new holders' new' : List ℕ} {t t' : Tally} {b k j : ℕ} → Mating row marks hubs old k holders new t b holders' new' t' j → j ≤ 0
-      → b ≡ pair_key (negate (select_at row k)) (output_at row k) % length hubs → (i : ℕ) → Pair row marks k i → Served row old holders' new' t' k i
+  pub mating_ends : {holders new holders' new' : List ℕ} {t t' : Tally} {b k j : ℕ} → Mating B row marks old k holders new t b holders' new' t' j → j ≤ 0
+      → b ≡ pair_key (negate (select_at row k)) (output_at row k) % B → (i : ℕ) → Pair row marks k i → Served row old holders' new' t' k i
   mating_ends {b = b} m l e i p =
       walk_end _ (2 * length row) b m.mates l i (side_inside p.second)
       (record { is-side = p.second; bucket = rw (p.selects, p.outputs) (sym e) }) p
 
 -- The entries with one key
 
--- the last entry with a key
-pub last_below : (likes : List ℕ) (key n : ℕ) → (r : ℕ) × LastWith likes key n r
-last_below likes key zero = (0, record { low = omega arith; at = λ l. absurd (omega arith); none = λ i l d. absurd (omega arith) })
-last_below likes key (suc n) = go (ℕ_discrete (get_or likes n 0) key) (last_below likes key n)
+-- the last slot with a key
+pub last_below : (keys : List ℕ) (key n : ℕ) → (o : Option ℕ) × LastSlot keys key n o
+last_below keys key zero = (None, λ i l. absurd (omega arith))
+last_below keys key (suc n) = go (ℕ_discrete (get_or keys n 0) key) (last_below keys key n)
   where
-    go : Dec (get_or likes n 0 ≡ key) → (r : ℕ) × LastWith likes key n r → (r : ℕ) × LastWith likes key (suc n) r
-    go (yes e) _ =
-        let z : suc n - 1 ≡ n = omega arith in
-        (suc n, record { low = omega arith; at = λ l. ap (λ (i : ℕ). get_or likes i 0) z ∙ e; none = λ i l d. l })
-    go (no d) (r, o) = (r, record { low = omega (arith, o.low); at = o.at; none = λ i l f. before i l f (ℕ_discrete i n) })
+    go : Dec (get_or keys n 0 ≡ key) → (o : Option ℕ) × LastSlot keys key n o → (o : Option ℕ) × LastSlot keys key (suc n) o
+    go (yes e) _ = (Some n, (omega arith, e, λ i l d. omega arith))
+    go (no d) (None, h) = (None, λ i l f. none i l f (ℕ_discrete i n))
       where
-        before : (i : ℕ) → i < suc n → get_or likes i 0 ≡ key → Dec (i ≡ n) → i < r
-        before i l f (yes q) = absurd (d (sym (ap (λ (x : ℕ). get_or likes x 0) q) ∙ f))
-        before i l f (no q) = o.none i (omega arith) f
+        none : (i : ℕ) → i < suc n → get_or keys i 0 ≡ key → Dec (i ≡ n) → ⊥
+        none i l f (yes q) = d (sym (ap (λ (x : ℕ). get_or keys x 0) q) ∙ f)
+        none i l f (no q) = h i (omega arith) f
+    go (no d) (Some k, h) = (Some k, (omega (arith, h.0), h.1, λ i l f. before i l f (ℕ_discrete i n)))
+      where
+        before : (i : ℕ) → i < suc n → get_or keys i 0 ≡ key → Dec (i ≡ n) → i ≤ k
+        before i l f (yes q) = absurd (d (sym (ap (λ (x : ℕ). get_or keys x 0) q) ∙ f))
+        before i l f (no q) = h.2 i (omega arith) f
 
-pub last_once : (likes : List ℕ) {key n r s : ℕ} → LastWith likes key n r → LastWith likes key n s → r ≡ s
-last_once likes {r = r} {s = s} o p = go (dec_lt r s) (dec_lt s r)
+-- the test whether it is number i
+pub is_last : (keys : List ℕ) (key n i : ℕ) (o : Option ℕ) → false ≡ not (option_eq eqb o (Some i)) → LastSlot keys key n o → LastSlot keys key n (Some i)
+is_last keys key n i None e h = absurd (true≢false (sym e))
+is_last keys key n i (Some j) e h = go (ℕ_discrete j i)
   where
-    go : Dec (r < s) → Dec (s < r) → r ≡ s
-    go (yes l) d = absurd (omega (arith, o.none (s - 1) (omega (arith, p.low)) (p.at (omega arith))))
-    go (no l) (yes d) = absurd (omega (arith, p.none (r - 1) (omega (arith, o.low)) (o.at (omega arith))))
-    go (no l) (no d) = omega arith
+    go : Dec (j ≡ i) → LastSlot keys key n (Some i)
+    go (yes d) = subst (λ (k : ℕ). LastSlot keys key n (Some k)) d h
+    go (no d) = absurd (true≢false (sym (rw (ne_eqb j i d) at e)))
 
--- a walk from the last one down
-abbrev pub LikesTo : List ℕ → List ℕ → ℕ → (ℕ → Type 0) → ℕ → Type 0
-LikesTo sides likes like = WalkIn (λ i key. get_or likes i 0 ≡ key) (length sides) like
-
-module _ (sides likes : List ℕ) (like : ℕ) where
-  pub likes_begin : (P : ℕ → Type 0) {k : ℕ} → LastWith likes like (length sides) k → LikesTo sides likes like P k
-  likes_begin P o = record { low = o.low; at = o.at; seen = λ i l h d. absurd (omega (arith, o.none i l d)) }
-
-  module _ {P : ℕ → Type 0} {k r : ℕ} (w : LikesTo sides likes like P k) (l : 0 < k) (o : LastWith likes (get_or likes (k - 1) 0) (k - 1) r) where
-    pub likes_next : P (k - 1) → LikesTo sides likes like P r
-    likes_next v = record { low = omega (arith, o.low, w.low); at = λ h. o.at h ∙ w.at l; seen = λ i h g d. seen i h g d (dec_lt i k) (ℕ_discrete i (k - 1)) }
-      where
-        seen : (i : ℕ) → i < length sides → r ≤ i → get_or likes i 0 ≡ like → Dec (i < k) → Dec (i ≡ k - 1) → P i
-        seen i h g d (no n) e = w.seen i h (omega arith) d
-        seen i h g d (yes n) (yes e) = subst⁻¹ P e v
-        seen i h g d (yes n) (no e) = absurd (omega (arith, o.none i (omega arith) (d ∙ sym (w.at l))))
-
-    pub likes_less : r < k
-    likes_less = omega (arith, o.low)
+pub not_last : (keys : List ℕ) (key n i : ℕ) (o : Option ℕ) → true ≡ not (option_eq eqb o (Some i)) → LastSlot keys key n o → ¬ LastSlot keys key n (Some i)
+not_last keys key n i None e h g = h i g.0 g.1
+not_last keys key n i (Some j) e h g = let d : j ≡ i = omega (arith, h.2 i g.0 g.1, g.2 j h.0 h.1) in true≢false (rw (eq-eqb j i d) at e)
 
 -- Outputs of one new lead
 
 -- .. of which x is
-abbrev pub OutputsTo : List ℕ → List ℕ → List ℕ → List ℕ → ℕ → ℕ → ℕ → Type 0
-OutputsTo row new sides likes x like = LikesTo sides likes like (λ i. lead_of new (output_at row (get_or sides i 0)) ≡ x)
-
-pub outputs_end : (row new sides likes : List ℕ) {x like k : ℕ} → OutputsTo row new sides likes x like k → k ≤ 0 → OneOutput row new sides likes like
-outputs_end row new sides likes {like = like} w l i k h g d e =
-    walk_end _ (length sides) like w l i h d ∙ sym (walk_end _ (length sides) like w l k g e)
+abbrev pub OutputsTo : {S B : ℕ} → List ℕ → List ℕ → KeyTable S B → ℕ → ℕ → Option ℕ → Type 0
+OutputsTo row new table x like = KeyWalk table like (λ i. lead_of new (output_at row (get_or table.values i 0)) ≡ x)
 
 -- ITEs whose first sides are in entries with one key
 
-abbrev pub ServedAt : List ℕ → List ℕ → List ℕ → List ℕ → List ℕ → Tally → List ℕ → ℕ → Type 0
-ServedAt row marks old holders new t sides i = (j : ℕ) → Pair row marks (get_or sides i 0) j → Served row old holders new t (get_or sides i 0) j
+abbrev pub ServedAt : {S B : ℕ} → List ℕ → List ℕ → List ℕ → List ℕ → List ℕ → Tally → KeyTable S B → ℕ → Type 0
+ServedAt row marks old holders new t table i = (j : ℕ) → Pair row marks (get_or table.values i 0) j → Served row old holders new t (get_or table.values i 0) j
 
--- those of the entries from number k on have been matched; the holders like the last one are still holders
-pub record Grouping (row marks old : List ℕ) (sides likes : List ℕ) (last : ℕ) (holders new : List ℕ) (t : Tally) (holders' new' : List ℕ) (t' : Tally) (k : ℕ) : Type 0 where
-  pub matching : Matching row marks old (get_or sides (last - 1) 0) holders new t holders' new' t'
-  pub likes_to : LikesTo sides likes (get_or likes (last - 1) 0) (λ i. ServedAt row marks old holders' new' t' sides i) k
+-- those of the entries behind `at` have been matched; the holders like the last one are still holders
+pub record Grouping {S B : ℕ} (row marks old : List ℕ) (table : KeyTable S B) (last : ℕ) (holders new : List ℕ) (t : Tally) (holders' new' : List ℕ) (t' : Tally) (at : Option ℕ) : Type 0 where
+  pub matching : Matching row marks old (get_or table.values last 0) holders new t holders' new' t'
+  pub served : KeyWalk table (get_or table.keys last 0) (ServedAt row marks old holders' new' t' table) at
 
--- entry i is alike the last one
-group_alike : {row marks old sides likes next heads : List ℕ} (last i : ℕ) → SideGroups row marks old sides likes next heads → IsLast sides likes last → i < length sides
-    → get_or likes i 0 ≡ get_or likes (last - 1) 0 → Alike row old (get_or sides (last - 1) 0) (get_or sides i 0)
-group_alike last i g o l e = slots_alike (g.are (last - 1) (omega (arith, o.some, o.is.low))) (g.are i l) (sym e)
+module _ {S B : ℕ} {row marks old : List ℕ} {table : KeyTable S B} (g : SideGroups row marks old table) (last : ℕ) (o : IsLast table last) where
+  -- entry i is alike the last one
+  group_alike : (i : ℕ) → i < table.count → get_or table.keys i 0 ≡ get_or table.keys last 0 → Alike row old (get_or table.values last 0) (get_or table.values i 0)
+  group_alike i l e = slots_alike (g.are last o.0) (g.are i l) (sym e)
 
-pub grouping_begins : {row marks old sides likes holders new : List ℕ} {t : Tally} {last : ℕ} → IsLast sides likes last → Holders row marks old holders
-    → Grouping row marks old sides likes last holders new t holders new t last
-grouping_begins {sides = sides} {likes = likes} {last = last} o h =
-    record { matching = matching_none (get_or sides (last - 1) 0) h; likes_to = likes_begin sides likes (get_or likes (last - 1) 0) _ o.is }
+  pub grouping_begins : {holders new : List ℕ} {t : Tally} → Holders row marks old holders → Grouping row marks old table last holders new t holders new t (Some last)
+  grouping_begins h = record { matching = matching_none (get_or table.values last 0) h; served = walk_begins table (get_or table.keys last 0) _ (Some last) o }
 
-module _ {row marks old sides likes next heads : List ℕ} (g : SideGroups row marks old sides likes next heads) {last : ℕ} (o : IsLast sides likes last) {holders new holders' new' : List ℕ}
-    {t t' : Tally} {k : ℕ} (w : Grouping row marks old sides likes last holders new t holders' new' t' k) where
-  pub grouping_side : 0 < k → IsSide row marks (get_or sides (k - 1) 0)
-  grouping_side l = (g.are (k - 1) (omega (arith, w.likes_to.low))).is-side
+  module _ {holders new holders' new' : List ℕ} {t t' : Tally} where
+    pub grouping_inside : {k : ℕ} → Grouping row marks old table last holders new t holders' new' t' (Some k) → k < table.count
+    grouping_inside w = walk_inside table _ _ w.served
 
-  pub grouping_on : 0 < k → {holders'' new'' : List ℕ} {t'' : Tally} {r : ℕ}
-      → Matching row marks old (get_or sides (k - 1) 0) holders' new' t' holders'' new'' t'' × ServedAt row marks old holders'' new'' t'' sides (k - 1)
-      → LastWith likes (get_or likes (k - 1) 0) (k - 1) r → Grouping row marks old sides likes last holders new t holders'' new'' t'' r
-  grouping_on l {holders''} {new''} {t''} {r} (n, v) q =
-      record {
-        matching = matching_then w.matching on;
-        likes_to = likes_next sides likes (get_or likes (last - 1) 0) {P = ServedAt row marks old holders'' new'' t'' sides} later l q v;
-      }
-    where
-      on : Matching row marks old (get_or sides (last - 1) 0) holders' new' t' holders'' new'' t''
-      on = matching_alike (group_alike last (k - 1) g o (omega (arith, w.likes_to.low)) (w.likes_to.at l)) n
+    pub grouping_side : {k : ℕ} → Grouping row marks old table last holders new t holders' new' t' (Some k) → IsSide row marks (get_or table.values k 0)
+    grouping_side w = (g.are _ (grouping_inside w)).is-side
 
-      later : LikesTo sides likes (get_or likes (last - 1) 0) (ServedAt row marks old holders'' new'' t'' sides) k
-      later =
-          record {
-            low = w.likes_to.low;
-            at = w.likes_to.at;
-            seen = λ i h f d j p. served_on on (group_alike last i g o h d) (w.likes_to.seen i h f d j p);
-          }
+    pub grouping_on : {k : ℕ} → Grouping row marks old table last holders new t holders' new' t' (Some k) → {holders'' new'' : List ℕ} {t'' : Tally}
+        → Matching row marks old (get_or table.values k 0) holders' new' t' holders'' new'' t'' × ServedAt row marks old holders'' new'' t'' table k
+        → (r : Option ℕ) → LastSlot table.keys (get_or table.keys k 0) k r → Grouping row marks old table last holders new t holders'' new'' t'' r
+    grouping_on {k} w {holders''} {new''} {t''} (n, v) r q =
+        record {
+          matching = matching_then w.matching on;
+          served = walk_next table _ _ (walk_map (λ i l d f j p. served_on on (group_alike i l d) (f j p)) w.served) r q v;
+        }
+      where
+        on : Matching row marks old (get_or table.values last 0) holders' new' t' holders'' new'' t''
+        on = matching_alike (group_alike k (grouping_inside w) w.served.key_is) n
 
-  pub grouping_ends : k ≤ 0 → GroupJoined row marks old new' t' sides likes (get_or likes (last - 1) 0)
-  grouping_ends l i m j f h n d e p q z =
-      served_joined
-      (walk_end _ (length sides) (get_or likes (last - 1) 0) w.likes_to l i h d j p)
-      (walk_end _ (length sides) (get_or likes (last - 1) 0) w.likes_to l m n e f q) z
+    pub grouping_ends : Grouping row marks old table last holders new t holders' new' t' None → GroupJoined row marks old new' t' table (get_or table.keys last 0)
+    grouping_ends w i m j f h n d e p q z =
+        served_joined
+        (walk_ends table (get_or table.keys last 0) _ w.served i h d j p)
+        (walk_ends table (get_or table.keys last 0) _ w.served m n e f q) z
 
 -- Groups
 
-pub one_joined : (row marks old new sides likes : List ℕ) (t : Tally) {like : ℕ} → OneOutput row new sides likes like → GroupJoined row marks old new t sides likes like
-one_joined row marks old new sides likes t one i k j g h l d e p q z = inr (one i k h l d e)
-
--- the key of entry i, counted from 1
-pub key_of : (likes : List ℕ) (i : ℕ) → get_or likes (i + 1 - 1) 0 ≡ get_or likes i 0
-key_of likes i = let z : i + 1 - 1 ≡ i = omega arith in ap (λ (x : ℕ). get_or likes x 0) z
-
--- entry i is the last one with its key
-pub is_last : (sides likes : List ℕ) (i : ℕ) {r : ℕ} → LastWith likes (get_or likes i 0) (length sides) r → r ≡ i + 1 → IsLast sides likes (i + 1)
-is_last sides likes i {r} o e =
-    let z : i + 1 - 1 ≡ i = omega arith in
-    record { some = omega arith; is = rw (z, ← e) o }
-
--- .. or it is not
-pub not_last : (sides likes : List ℕ) (i : ℕ) {r : ℕ} → LastWith likes (get_or likes i 0) (length sides) r → r ≢ i + 1 → ¬ IsLast sides likes (i + 1)
-not_last sides likes i {r} o n l =
-    let z : i + 1 - 1 ≡ i = omega arith in
-    n (last_once likes o (rw z at l.is))
+pub one_joined : {S B : ℕ} (row marks old new : List ℕ) (t : Tally) (table : KeyTable S B) (like : ℕ) → OneOutput row new table like → GroupJoined row marks old new t table like
+one_joined row marks old new t table like one i k j g h l d e p q z = inr (one i k h l d e)
 
 -- the groups whose last entries are from number `from` on and below i
-abbrev pub GroupsTo : List ℕ → List ℕ → List ℕ → List ℕ → Tally → List ℕ → List ℕ → ℕ → ℕ → Type 0
-GroupsTo row marks old new t sides likes from i = (k : ℕ) → from ≤ k → k < i → IsLast sides likes (k + 1) → GroupJoined row marks old new t sides likes (get_or likes k 0)
+abbrev pub GroupsTo : {S B : ℕ} → List ℕ → List ℕ → List ℕ → List ℕ → Tally → KeyTable S B → ℕ → ℕ → Type 0
+GroupsTo row marks old new t table from i = (k : ℕ) → from ≤ k → k < i → IsLast table k → GroupJoined row marks old new t table (get_or table.keys k 0)
 
--- one entry more
-pub groups_on : {row marks old new new' sides likes : List ℕ} {t t' : Tally} {from i : ℕ} → GroupsTo row marks old new t sides likes from i → Went row marks old new t new' t'
-    → (IsLast sides likes (i + 1) → GroupJoined row marks old new' t' sides likes (get_or likes i 0)) → GroupsTo row marks old new' t' sides likes from (i + 1)
-groups_on {row} {marks} {old} {new} {new'} {sides} {likes} {t} {t'} {from} {i} all w d k h l = go (ℕ_discrete k i)
-  where
-    go : Dec (k ≡ i) → IsLast sides likes (k + 1) → GroupJoined row marks old new' t' sides likes (get_or likes k 0)
-    go (yes e) o = rw e (d (rw e at o))
-    go (no n) o = λ a b j g x y p q u v z. w.later _ _ (all k h (omega arith) o a b j g x y p q u v z)
+module _ {S B : ℕ} (row marks old : List ℕ) (table : KeyTable S B) {from : ℕ} where
+  -- one entry more
+  pub groups_on : {new new' : List ℕ} {t t' : Tally} {i : ℕ} → GroupsTo row marks old new t table from i → Went row marks old new t new' t'
+      → (IsLast table i → GroupJoined row marks old new' t' table (get_or table.keys i 0)) → GroupsTo row marks old new' t' table from (i + 1)
+  groups_on {new} {new'} {t} {t'} {i} all w d k h l = go (ℕ_discrete k i)
+    where
+      go : Dec (k ≡ i) → IsLast table k → GroupJoined row marks old new' t' table (get_or table.keys k 0)
+      go (yes e) o = rw e (d (rw e at o))
+      go (no n) o = λ a b j g x y p q u v z. w.later _ _ (all k h (omega arith) o a b j g x y p q u v z)
 
--- all entries
-pub groups_end : (row marks old new sides likes : List ℕ) (t : Tally) {from : ℕ} → GroupsTo row marks old new t sides likes from (length sides)
-    → (i : ℕ) → from ≤ i → i < length sides → GroupJoined row marks old new t sides likes (get_or likes i 0)
-groups_end row marks old new sides likes t {from} all i h l =
-    let (r, o) = last_below likes (get_or likes i 0) (length sides) in
-    let b : i < r = o.none i l refl in
-    let e : get_or likes (r - 1) 0 ≡ get_or likes i 0 = o.at (omega arith) in
-    let z : r ≡ r - 1 + 1 = omega arith in
-    let p : LastWith likes (get_or likes (r - 1) 0) (length sides) r = subst⁻¹ (λ (x : ℕ). LastWith likes x (length sides) r) e o in
-    subst (GroupJoined row marks old new t sides likes) e (all (r - 1) (omega arith) (omega (arith, o.low)) (is_last sides likes (r - 1) p z))
+  -- all entries
+  pub groups_end : (new : List ℕ) (t : Tally) → GroupsTo row marks old new t table from table.count
+      → (i : ℕ) → from ≤ i → i < table.count → GroupJoined row marks old new t table (get_or table.keys i 0)
+  groups_end new t all i h l = go (last_below table.keys (get_or table.keys i 0) table.count)
+    where
+      go : (o : Option ℕ) × LastSlot table.keys (get_or table.keys i 0) table.count o → GroupJoined row marks old new t table (get_or table.keys i 0)
+      go (None, o) = absurd (o i l refl)
+      go (Some r, o) =
+          subst (GroupJoined row marks old new t table) o.1
+          (all r (omega (arith, o.2 i l refl)) o.0 (subst⁻¹ (λ (x : ℕ). LastSlot table.keys x table.count (Some r)) o.1 o))
 
 -- All conclusions of rules 7 and 8
 
 -- the round goes over all clauses and the table was empty; or it goes over those that changed, the round before has joined all that it draws, and the
 -- first entries are of that round or an earlier one
-pub data SidesBefore (row marks older old list : List ℕ) (from : ℕ) (sides likes : List ℕ) : Type 0 where
-  first : HoldsAll row list → from ≡ 0 → SidesBefore row marks older old list from sides likes
-  later : HoldsChanged row marks older old list → ItesJoined row marks older old (fresh 0) → ((i : ℕ) → i < from → SideSlot row marks older (get_or likes i 0) (get_or sides i 0))
-      → SidesBefore row marks older old list from sides likes
+pub data SidesBefore {S B : ℕ} (row marks older old list : List ℕ) (from : ℕ) (table : KeyTable S B) : Type 0 where
+  first : HoldsAll row list → from ≡ 0 → SidesBefore row marks older old list from table
+  later : HoldsChanged row marks older old list → ItesJoined row marks older old (fresh 0) → ((i : ℕ) → i < from → SideSlot row marks older (get_or table.keys i 0) (get_or table.values i 0))
+      → SidesBefore row marks older old list from table
 
 negated : (a b : ℕ) → a ≢ negate b → b ≢ negate a
 negated a b n e = n (sym (negate_negate a) ∙ ap negate (sym e))
 
-module _ {cs : List (List ℕ)} {row marks older old new list sides likes mate_next mate_heads like_next like_heads : List ℕ} {t : Tally} {count from : ℕ} (marked : Marked cs row marks) (making : Making cs old new t)
-    (known : SidesKnown row marks old new t list (length list) count sides likes) (table : SideTable row marks old count sides likes mate_next mate_heads like_next like_heads)
-    (joined : (i : ℕ) → from ≤ i → i < count → GroupJoined row marks old new t (take count sides) likes (get_or likes i 0)) (before : SidesBefore row marks older old list from sides likes) where
+module _ {S B : ℕ} {cs : List (List ℕ)} {row marks older old new list : List ℕ} {table : KeyTable S B} {t : Tally} {from : ℕ} (marked : Marked cs row marks) (making : Making cs old new t)
+    (known : SidesKnown row marks old new t list (length list) table) (slots : SideGroups row marks old table)
+    (joined : (i : ℕ) → from ≤ i → i < table.count → GroupJoined row marks old new t table (get_or table.keys i 0)) (before : SidesBefore row marks older old list from table) where
   listed_or_unchanged : {l c u : ℕ} (s : SideAt row marks l c u) → OnList list s.start ⊎ (ItesJoined row marks older old (fresh 0) × SideUnchanged older old c u)
   listed_or_unchanged {l} {c} {u} s = go before
     where
@@ -430,7 +360,7 @@ module _ {cs : List (List ℕ)} {row marks older old new list sides likes mate_n
       changed h j (inl d) (inr n) = inr (j, d)
       changed h j (inr d) (inr n) = absurd (n (Changed.side d))
 
-      go : SidesBefore row marks older old list from sides likes → OnList list s.start ⊎ (ItesJoined row marks older old (fresh 0) × SideUnchanged older old c u)
+      go : SidesBefore row marks older old list from table → OnList list s.start ⊎ (ItesJoined row marks older old (fresh 0) × SideUnchanged older old c u)
       go (SidesBefore.first h z) = inl (h s.start s.at.start)
       go (SidesBefore.later h j k) = changed h j (side_unchanged_or_changed older old marked s) (h s.start s.at.start)
 
@@ -486,31 +416,17 @@ module _ {cs : List (List ℕ)} {row marks older old new list sides likes mate_n
 
   -- Rule 8: entries stand for the sides
 
-  count_low : count ≤ length sides
-  count_low = omega (arith, table.table.low, table.room)
-
-  -- what rule 8 draws from entries with the key of a new one
-  group_all : (n i k j g : ℕ) → from ≤ n → n < count → i < count → k < count → get_or likes i 0 ≡ get_or likes n 0 → get_or likes k 0 ≡ get_or likes n 0
-      → Pair row marks (get_or sides i 0) j → Pair row marks (get_or sides k 0) g → Kernel old (then_at row j) (then_at row g)
-      → JoinedBy new t (output_at row (get_or sides i 0)) (output_at row (get_or sides k 0))
-  group_all n i k j g h l x y d e p q z =
-      let size : length (take count sides) ≡ count = length-take-le count sides count_low in
-      let a : get_or (take count sides) i 0 ≡ get_or sides i 0 = get_or-take count sides i 0 x in
-      let b : get_or (take count sides) k 0 ≡ get_or sides k 0 = get_or-take count sides k 0 y in
-      joined_same making (ap (output_at row) a) (ap (output_at row) b)
-      (joined n h l i k j g (omega arith) (omega arith) d e (subst⁻¹ (λ (s : ℕ). Pair row marks s j) a p) (subst⁻¹ (λ (s : ℕ). Pair row marks s g) b q) z)
-
   -- two entries that make the ITE of sides k and j: r stands for k, q for j
   record Entries (k j : ℕ) : Type 0 where
     r : ℕ
     q : ℕ
-    r_taken : r < count
-    q_taken : q < count
-    r_like : get_or likes r 0 ≡ like_of row old k
-    q_like : get_or likes q 0 ≡ like_of row old j
-    output : output_at row (get_or sides r 0) ≡ output_at row k
-    half : Pair row marks (get_or sides r 0) j
-    both : Pair row marks (get_or sides r 0) (get_or sides q 0)
+    r_taken : r < table.count
+    q_taken : q < table.count
+    r_like : get_or table.keys r 0 ≡ like_of row old k
+    q_like : get_or table.keys q 0 ≡ like_of row old j
+    output : output_at row (get_or table.values r 0) ≡ output_at row k
+    half : Pair row marks (get_or table.values r 0) j
+    both : Pair row marks (get_or table.values r 0) (get_or table.values q 0)
 
   entries-of : {k j : ℕ} → Pair row marks k j → Entries k j
   entries-of {k} {j} p =
@@ -526,28 +442,28 @@ module _ {cs : List (List ℕ)} {row marks older old new list sides likes mate_n
         both =
             record {
               first = half.first;
-              second = (table.are b.entry b.taken).is-side;
+              second = (slots.are b.entry b.taken).is-side;
               selects = b.select ∙ half.selects;
               outputs = b.output ∙ half.outputs;
               not_inverses = b.apart;
             };
       }
     where
-      a : EntryOff row old count sides likes k (negate (then_at row j))
+      a : EntryOff row old table k (negate (then_at row j))
       a = known.stood k p.first (past_end list (clause_of row k)) (negate (then_at row j)) (negated (then_at row j) (then_at row k) p.not_inverses)
 
-      half : Pair row marks (get_or sides a.entry 0) j
+      half : Pair row marks (get_or table.values a.entry 0) j
       half =
           record {
-            first = (table.are a.entry a.taken).is-side;
+            first = (slots.are a.entry a.taken).is-side;
             second = p.second;
             selects = p.selects ∙ ap negate (sym a.select);
             outputs = p.outputs ∙ sym a.output;
-            not_inverses = negated (then_at row (get_or sides a.entry 0)) (then_at row j) a.apart;
+            not_inverses = negated (then_at row (get_or table.values a.entry 0)) (then_at row j) a.apart;
           }
 
-      b : EntryOff row old count sides likes j (negate (then_at row (get_or sides a.entry 0)))
-      b = known.stood j p.second (past_end list (clause_of row j)) (negate (then_at row (get_or sides a.entry 0))) half.not_inverses
+      b : EntryOff row old table j (negate (then_at row (get_or table.values a.entry 0)))
+      b = known.stood j p.second (past_end list (clause_of row j)) (negate (then_at row (get_or table.values a.entry 0))) half.not_inverses
 
   module _ {k j m n : ℕ} (p : Pair row marks k j) (p' : Pair row marks m n) (ck : Kernel old (select_at row k) (select_at row m)) (tk : Kernel old (then_at row k) (then_at row m))
       (ek : Kernel old (then_at row j) (then_at row n)) where
@@ -560,29 +476,29 @@ module _ {cs : List (List ℕ)} {row marks older old new list sides likes mate_n
         b : Entries m n
         b = entries-of p'
 
-        r_same : get_or likes b.r 0 ≡ get_or likes a.r 0
+        r_same : get_or table.keys b.r 0 ≡ get_or table.keys a.r 0
         r_same = b.r_like ∙ rw (← ck, ← tk) (sym a.r_like)
 
         elses : Kernel old (select_at row j) (select_at row n)
         elses = rw (p.selects, p'.selects, lead_negate old (select_at row k), lead_negate old (select_at row m)) (ap negate ck)
 
-        q_same : get_or likes b.q 0 ≡ get_or likes a.q 0
+        q_same : get_or table.keys b.q 0 ≡ get_or table.keys a.q 0
         q_same = b.q_like ∙ rw (← elses, ← ek) (sym a.q_like)
 
-        thens : Kernel old (then_at row (get_or sides a.r 0)) (then_at row (get_or sides b.r 0))
-        thens = (slots_alike (table.are a.r a.r_taken) (table.are b.r b.r_taken) (sym r_same)).thens
+        thens : Kernel old (then_at row (get_or table.values a.r 0)) (then_at row (get_or table.values b.r 0))
+        thens = (slots_alike (slots.are a.r a.r_taken) (slots.are b.r b.r_taken) (sym r_same)).thens
 
-        by_first : (n : ℕ) → from ≤ n → n < count → get_or likes a.r 0 ≡ get_or likes n 0 → JoinedBy new t (output_at row k) (output_at row m)
+        by_first : (n : ℕ) → from ≤ n → n < table.count → get_or table.keys a.r 0 ≡ get_or table.keys n 0 → JoinedBy new t (output_at row k) (output_at row m)
         by_first n h l e =
             joined_same making a.output b.output
-            (group_all n a.r b.r _ _ h l a.r_taken b.r_taken e (r_same ∙ e) a.half b.half ek)
+            (joined n h l a.r b.r _ _ a.r_taken b.r_taken e (r_same ∙ e) a.half b.half ek)
 
-        by_second : (n : ℕ) → from ≤ n → n < count → get_or likes a.q 0 ≡ get_or likes n 0 → JoinedBy new t (output_at row k) (output_at row m)
+        by_second : (n : ℕ) → from ≤ n → n < table.count → get_or table.keys a.q 0 ≡ get_or table.keys n 0 → JoinedBy new t (output_at row k) (output_at row m)
         by_second n h l e =
             joined_same making (a.both.outputs ∙ a.output) (b.both.outputs ∙ b.output)
-            (group_all n a.q b.q _ _ h l a.q_taken b.q_taken e (q_same ∙ e) (pair_back a.both) (pair_back b.both) thens)
+            (joined n h l a.q b.q _ _ a.q_taken b.q_taken e (q_same ∙ e) (pair_back a.both) (pair_back b.both) thens)
 
-        all_old : SidesBefore row marks older old list from sides likes → a.r < from → b.r < from → a.q < from → b.q < from → JoinedBy new t (output_at row k) (output_at row m)
+        all_old : SidesBefore row marks older old list from table → a.r < from → b.r < from → a.q < from → b.q < from → JoinedBy new t (output_at row k) (output_at row m)
         all_old (SidesBefore.first h z) x y v w = absurd (omega arith)
         all_old (SidesBefore.later h i s) x y v w =
             let f = slots_alike (s a.r x) (s b.r y) (sym r_same) in

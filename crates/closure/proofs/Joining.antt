@@ -8,7 +8,7 @@ use Prim.Native.Nat.{ℕ, ◌-◌, zero, suc, ◌*◌, ◌/◌, ◌≤◌, ◌<�
 use native.Mathlib.Omega.{arith}
 use lib.ListN.{length, get_or, get_or-eq_default}
 use borrow.Author.Tests.{eq-eqb, ne_eqb, lt-ltb, le-ltb}
-use Rattle.clauses.specs.Code.{negate, net}
+use Rattle.clauses.specs.Code.{net}
 use Rattle.clauses.specs.Sign.{flip, is_inverse}
 use Rattle.clauses.proofs.Signs.{code_split}
 use Rattle.closure.specs.declared.tally.Tally.{Tally}
@@ -34,21 +34,6 @@ lead_inside leads c n h = ap (flip (is_inverse c)) (go (c / 2) n h)
     go : (w : ℕ) → w ≢ 0 → w ≤ length leads → get_or leads (w - 1) 0 ≡ get_or (0 ∷ leads) w (2 * net c)
     go zero n h = absurd (n refl)
     go (suc i) n h = let e : suc i - 1 ≡ i = omega arith in rw e (any_default leads i 0 (2 * net c) h)
-
--- A lead replaced
-
-module _ (hi lo e : ℕ) where
-  pub replace_lead : e ≡ hi → lo ≡ replace hi lo e
-  unfolding replace
-  replace_lead p = rw (eq-eqb e hi p, replace)
-
-  pub replace_inverse : e ≢ hi → e ≡ negate hi → negate lo ≡ replace hi lo e
-  unfolding replace
-  replace_inverse n p = rw (ne_eqb e hi n, eq-eqb e (negate hi) p, replace)
-
-  pub replace_other : e ≢ hi → e ≢ negate hi → e ≡ replace hi lo e
-  unfolding replace
-  replace_other n m = rw (ne_eqb e hi n, ne_eqb e (negate hi) m, replace)
 
 -- Two groups joined
 

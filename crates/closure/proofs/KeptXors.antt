@@ -27,6 +27,7 @@ use Rattle.closure.specs.Changes.{ChangedIn}
 use Rattle.closure.specs.Xors.{LeadRow, odd_nets, odd_sign, XorAt, key_at, sum_at}
 use Rattle.closure.specs.Worklist.{OnList, Past, Changed, HoldsChanged, Grown, tie}
 use Rattle.closure.specs.KeptXors.{XorSlot, XorTable, SummedAt, XorsKnown}
+use Rattle.closure.specs.declared.table.KeyTable.{KeyTable}
 use Rattle.closure.specs.declared.tally.Tally.{Tally}
 use Rattle.closure.proofs.JoinedBy.{joined_back, joined_chain, joined_same}
 use Rattle.closure.proofs.OddNets.{is, odd_parity, odd_same, odd_leads}
@@ -129,13 +130,12 @@ xor_slot_grown g s =
       sum_is = s.sum_is;
     }
 
-pub xor_table_grown : {row marks older old : List ℕ} {count : ℕ} {keys sums next heads : List ℕ} → Grown older old
-    → XorTable row marks older count keys sums next heads → XorTable row marks old count keys sums next heads
-xor_table_grown g t = record { table = t.table; room = t.room; are = λ i l. xor_slot_grown g (t.are i l); once = t.once }
+pub xor_table_grown : {S B : ℕ} {row marks older old : List ℕ} {xors : KeyTable S B} → Grown older old → XorTable row marks older xors → XorTable row marks old xors
+xor_table_grown g t = record { are = λ i l. xor_slot_grown g (t.are i l); once = t.once }
 
 -- an XOR off the list has its slot
-module _ {cs : List (List ℕ)} {row marks older old new : List ℕ} {t : Tally} (making : Making cs old new t) {list before : List ℕ} {count : ℕ} {keys sums : List ℕ}
-    (holds : HoldsChanged row marks older old list) (k : XorsKnown row marks older old (fresh 0) before (length before) count keys sums) where
+module _ {cs : List (List ℕ)} {row marks older old new : List ℕ} {t : Tally} (making : Making cs old new t) {list before : List ℕ} {S B : ℕ} {xors : KeyTable S B}
+    (holds : HoldsChanged row marks older old list) (k : XorsKnown row marks older old (fresh 0) before (length before) xors) where
   unchanged_off : {b p : ℕ} → XorAt row marks b p → Past list 0 b → Unchanged row older old b
   unchanged_off {b} x off = go (unchanged_or_changed row older old b x.place.start) (holds b x.place.start)
     where
@@ -144,7 +144,7 @@ module _ {cs : List (List ℕ)} {row marks older old new : List ℕ} {t : Tally}
       go (inr s) (inl o) = absurd (past_off off o)
       go (inr s) (inr n) = absurd (n (tie (record { place = s.place; at = record { at = s.at; by = inr x.marked }; moved = s.moved })))
 
-  summed_off : (b p : ℕ) → XorAt row marks b p → Past list 0 b → SummedAt row old new t count keys sums b p
+  summed_off : (b p : ℕ) → XorAt row marks b p → Past list 0 b → SummedAt row old new t xors b p
   summed_off b p x off =
       let u = unchanged_off x off in
       let s = k.summed b p x (past_end before b) in
@@ -161,14 +161,14 @@ module _ {cs : List (List ℕ)} {row marks older old new : List ℕ} {t : Tally}
       joined_same making (sum_before u p) (ap (λ (n : ℕ). 2 * n) (key_before u p))
       (joined_before making _ _ (k.alone b p x (past_end before b) (subst⁻¹ (λ (n : ℕ). n < 65536) (key_before u p) h)))
 
-  pub xors_known_later : XorsKnown row marks old new t list 0 count keys sums
+  pub xors_known_later : XorsKnown row marks old new t list 0 xors
   xors_known_later = record { summed = summed_off; alone = alone_off }
 
 -- behind the list, all conclusions are joined: sums of one key are joined to one slot
-pub xors_all_joined : {cs : List (List ℕ)} {row marks old new : List ℕ} {t : Tally} {list : List ℕ} {count : ℕ} {keys sums : List ℕ} → Making cs old new t
-    → XorsKnown row marks old new t list (length list) count keys sums
-    → ((i j : ℕ) → i < count → j < count → get_or keys i 0 ≡ get_or keys j 0 → i ≡ j) → XorsJoined row marks old new t
-xors_all_joined {row = row} {marks = marks} {old = old} {new = new} {t = t} {list = list} {sums = sums} making k once =
+pub xors_all_joined : {cs : List (List ℕ)} {row marks old new : List ℕ} {t : Tally} {list : List ℕ} {S B : ℕ} {xors : KeyTable S B} → Making cs old new t
+    → XorsKnown row marks old new t list (length list) xors
+    → ((i j : ℕ) → i < xors.count → j < xors.count → get_or xors.keys i 0 ≡ get_or xors.keys j 0 → i ≡ j) → XorsJoined row marks old new t
+xors_all_joined {row = row} {marks = marks} {old = old} {new = new} {t = t} {list = list} {xors = xors} making k once =
     record { alone = λ b p x. k.alone b p x (past_end list b); sums = equal }
   where
     equal : (b p d q : ℕ) → XorAt row marks b p → XorAt row marks d q → key_at old row b p ≡ key_at old row d q
@@ -176,5 +176,5 @@ xors_all_joined {row = row} {marks = marks} {old = old} {new = new} {t = t} {lis
     equal b p d q x y e =
         let u = k.summed b p x (past_end list b) in
         let v = k.summed d q y (past_end list d) in
-        joined_chain making _ (get_or sums u.slot 0) _ (joined_back making _ _ u.joined)
-        (subst⁻¹ (λ (i : ℕ). JoinedBy new t (get_or sums i 0) (sum_at old row d q)) (once u.slot v.slot u.taken v.taken (u.key ∙ e ∙ sym v.key)) v.joined)
+        joined_chain making _ (get_or xors.values u.slot 0) _ (joined_back making _ _ u.joined)
+        (subst⁻¹ (λ (i : ℕ). JoinedBy new t (get_or xors.values i 0) (sum_at old row d q)) (once u.slot v.slot u.taken v.taken (u.key ∙ e ∙ sym v.key)) v.joined)

@@ -16,7 +16,6 @@ pub mod AndOutputs
 pub mod Signatures
 pub mod AndSets
 pub mod AndPairs
-pub mod Maps
 pub mod Joining
 pub mod Making
 pub mod IteRules

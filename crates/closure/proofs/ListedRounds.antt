@@ -18,6 +18,7 @@ use Rattle.closure.specs.RowJoined.{RowJoined}
 use Rattle.closure.specs.Changes.{ConstantAt, TiedAt, ChangedIn}
 use Rattle.closure.specs.Worklist.{OnList, Past, Changed, constant, tie, HoldsChanged, HoldsAll, LeavesDrawn, Grown}
 use Rattle.closure.specs.KeptAnds.{KeyOf, Represented, AndsKnown}
+use Rattle.closure.specs.declared.table.KeyTable.{KeyTable}
 use Rattle.closure.specs.declared.tally.Tally.{Tally}
 use Rattle.closure.proofs.Searches.{lead_false}
 use Rattle.closure.proofs.JoinedBy.{joined_sym}
@@ -77,7 +78,7 @@ module _ {cs : List (List ℕ)} {row marks older old new : List ℕ} {t : Tally}
           by (inr h) = absurd (n (tie h))
 
   -- Rule 4
-  pub and_pairs_all : {count : ℕ} {keys slots : List ℕ} → AndsKnown row marks old new t list (length list) count keys slots
+  pub and_pairs_all : {S B : ℕ} {ands : KeyTable S B} → AndsKnown row marks old new t list (length list) ands
       → (p q : ℕ) → AndAt row marks p → AndAt row marks q → Alike row old p q → JoinedBy new t (get_or row p 0) (get_or row q 0)
   and_pairs_all known p q a b like =
       pairs_joined On Off (λ g h. Alike row old g.0 h.0) (λ g h. Alike row older g.0 h.0) (λ g h. JoinedBy new t (get_or row g.0 0) (get_or row h.0 0))
@@ -142,25 +143,25 @@ module _ {row older old : List ℕ} (grown : Grown older old) {p : ℕ} (unchang
   key_stays : {key : ℕ} → KeyOf row older p key → KeyOf row old p key
   key_stays k = record { signature = k.signature; signed = sum_below (λ x l (h, n). (lead_now h, n)) (λ x l (h, n). (lead_then h, n)) k.signed; is = k.is }
 
-  represented_stays : {cs : List (List ℕ)} {new : List ℕ} {t : Tally} {count : ℕ} {keys slots : List ℕ} → Making cs old new t
-      → Represented row older old (fresh 0) count keys slots p → Represented row old new t count keys slots p
+  represented_stays : {cs : List (List ℕ)} {new : List ℕ} {t : Tally} {S B : ℕ} {ands : KeyTable S B} → Making cs old new t
+      → Represented row older old (fresh 0) ands p → Represented row old new t ands p
   represented_stays making r =
       record { slot = r.slot; taken = r.taken; key = key_stays r.key; alike = set_follows r.alike; joined = joined_before making _ _ r.joined }
 
 -- the ANDs of the clauses that are not on the list are represented in the next round too
-pub ands_known_later : {cs : List (List ℕ)} {row marks older old new : List ℕ} {t : Tally} (before list : List ℕ) {count : ℕ} {keys slots : List ℕ} → Marked cs row marks
-    → Grown older old → Making cs old new t → HoldsChanged row marks older old list → AndsKnown row marks older old (fresh 0) before (length before) count keys slots
-    → AndsKnown row marks old new t list 0 count keys slots
-ands_known_later {row = row} {marks} {older} {old} {new} {t} before list {count} {keys} {slots} marked grown making holds known =
+pub ands_known_later : {cs : List (List ℕ)} {row marks older old new : List ℕ} {t : Tally} (before list : List ℕ) {S B : ℕ} {ands : KeyTable S B} → Marked cs row marks
+    → Grown older old → Making cs old new t → HoldsChanged row marks older old list → AndsKnown row marks older old (fresh 0) before (length before) ands
+    → AndsKnown row marks old new t list 0 ands
+ands_known_later {row = row} {marks} {older} {old} {new} {t} before list {ands = ands} marked grown making holds known =
     record {
       represented = λ p a d. go p a d (holds (start_of row p) a.placed.at.start);
       pairs = λ p q a b d e on. absurd (past_off d on);
     }
   where
-    go : (p : ℕ) → AndAt row marks p → Past list 0 (start_of row p) → OnList list (start_of row p) ⊎ (¬ Changed row marks older old (start_of row p)) → Represented row old new t count keys slots p
+    go : (p : ℕ) → AndAt row marks p → Past list 0 (start_of row p) → OnList list (start_of row p) ⊎ (¬ Changed row marks older old (start_of row p)) → Represented row old new t ands p
     go p a d (inl on) = absurd (past_off d on)
     go p a d (inr n) = by (inputs_unchanged_or_changed older old marked (start_of row p) p a.placed.at a.mark)
       where
-        by : InputsUnchanged row older old (start_of row p) p ⊎ ChangedIn (TiedAt row marks) row older old (start_of row p) → Represented row old new t count keys slots p
+        by : InputsUnchanged row older old (start_of row p) p ⊎ ChangedIn (TiedAt row marks) row older old (start_of row p) → Represented row old new t ands p
         by (inl u) = represented_stays grown u making (known.represented p a (past_end before _))
         by (inr h) = absurd (n (tie h))

@@ -1,6 +1,6 @@
 -- A pass over a list of clauses takes every literal of their XORs, with a table that is kept: what is joined then, rules 5 and 6 conclude.
 -- Assumes nothing.
-use mathlib.Core.Path.{◌≡◌, refl, sym, ◌∙◌, ap, subst, subst⁻¹, subst₂}
+use mathlib.Core.Path.{◌≡◌, sym, ◌∙◌, ap, subst, subst⁻¹, subst₂}
 use mathlib.Core.Logic.{◌≢◌, ◌⊎◌, inl, inr}
 use mathlib.Core.Bool.{not}
 use mathlib.Core.List.{List}
@@ -9,8 +9,7 @@ use native.Mathlib.Omega.{arith}
 use native.Mathlib.Decide.{ℕ_discrete}
 use borrow.Author.Tests.{eq-eqb, eqb-true}
 use lib.Dec.{eqb}
-use lib.ListN.{length, get_or, drop, length-set}
-use lib.Seq.{get_or-set_same, get_or-set_other}
+use lib.ListN.{length, get_or}
 use Rattle.clauses.specs.Code.{net}
 use Rattle.clauses.specs.Listing.{Fits}
 use Rattle.clauses.proofs.Clauses.{fits_present}
@@ -22,37 +21,37 @@ use Rattle.closure.specs.Making.{Drawn, Making, JoinedBy, Later}
 use Rattle.closure.specs.Joining.{State}
 use Rattle.closure.specs.Marked.{Marked, Ready, Went}
 use Rattle.closure.specs.Xors.{LeadRow, odd_nets, odd_sign, packed, Digits, others, rest_of, Packable, XorAt, rest_at, key_at, sum_at}
-use Rattle.closure.specs.XorMatching.{XorsOf, Board, join_alone, Again, Entered, Room, Stepped, rest_along, sum_along}
-use Rattle.closure.specs.Worklist.{Past, AreStarts, span_of}
+use Rattle.closure.specs.XorMatching.{XorsOf, join_alone, Again, Opened, Stepped, rest_along, sum_along}
+use Rattle.closure.specs.Worklist.{Past}
 use Rattle.closure.specs.KeptXors.{XorSlot, XorTable, SummedAt, XorsKnown}
+use Rattle.closure.specs.declared.table.KeyTable.{KeyTable}
 use Rattle.closure.specs.declared.tally.Tally.{Tally}
-use Rattle.closure.specs.declared.xors.Pass.{Pass}
 use Rattle.closure.proofs.Making.{Carried, join_makes}
 use Rattle.closure.proofs.JoinedBy.{joined_sym}
-use Rattle.closure.proofs.Going.{went_none, went_then, ready_on}
+use Rattle.closure.proofs.Going.{went_none, went_making}
 use Rattle.closure.proofs.OddNets.{odd_digits, packed_unique}
 use Rattle.closure.proofs.XorItems.{Xored}
 use Rattle.closure.proofs.XorRules.{xor-at}
 use Rattle.closure.proofs.XorSteps.{xor_packable, sum_high, AloneMade, alone_made, joins_few}
 use Rattle.closure.proofs.UnchangedClauses.{rest_in}
 use Rattle.closure.proofs.KeptXors.{odd_own, xored_kept}
-use Rattle.closure.proofs.Worklists.{past_or_here, span_step, span_whole}
+use Rattle.closure.proofs.Worklists.{past_or_here}
 
 -- One literal of a listed clause
 
 -- the literals of the XORs of the clauses that the pass is done with, and those of the clause at b below place `at`, have been matched
-pub record Summed (row marks old list : List ℕ) (i b at : ℕ) (m : Board) (p : Pass) : Type 0 where
-  pub table : XorTable row marks old p.count m.keys m.sums m.next m.heads
-  pub summed : (c q : ℕ) → XorAt row marks c q → Past list i c ⊎ ((b ≡ c) × (q < at)) → SummedAt row old m.leads p.tally p.count m.keys m.sums c q
+pub record Summed {S B : ℕ} (row marks old list : List ℕ) (i b at : ℕ) (xors : KeyTable S B) (s : State) : Type 0 where
+  pub summed : (c q : ℕ) → XorAt row marks c q → Past list i c ⊎ ((b ≡ c) × (q < at)) → SummedAt row old s.row s.tally xors c q
   pub alone : (c q : ℕ) → XorAt row marks c q → Past list i c ⊎ ((b ≡ c) × (q < at)) → key_at old row c q < 65536
-      → JoinedBy m.leads p.tally (sum_at old row c q) (2 * key_at old row c q)
+      → JoinedBy s.row s.tally (sum_at old row c q) (2 * key_at old row c q)
 
--- .. and the literal at place `at` now
-record Added (cs : List (List ℕ)) (row marks old list : List ℕ) (i b at : ℕ) (m : Board) (p : Pass) (m' : Board) (p' : Pass) : Type 0 where
-  making : Making cs old m'.leads p'.tally
-  later : Later m.leads p.tally m'.leads p'.tally
-  summed : Summed row marks old list i b (at + 1) m' p'
-  few : p'.count ≤ p.count + 1
+-- the literal at place `at` of the clause at b has been taken: the round goes on, and whatever was matched below it, is matched with it
+record Added {S B : ℕ} (cs : List (List ℕ)) (row marks old : List ℕ) (b at : ℕ) (xors : KeyTable S B) (s : State) (xors' : KeyTable S B) (s' : State) : Type 0 where
+  making : Making cs old s'.row s'.tally
+  later : Later s.row s.tally s'.row s'.tally
+  table : XorTable row marks old xors'
+  summed : (list : List ℕ) (i : ℕ) → Summed row marks old list i b at xors s → Summed row marks old list i b (at + 1) xors' s'
+  few : xors'.count ≤ xors.count + 1
 
 module _ {cs : List (List ℕ)} {row marks old : List ℕ} (ready : XorsOf cs row marks old) where
   slot_digits : {leads : List ℕ} → LeadRow leads → {b p : ℕ} → XorAt row marks b p → Digits (odd_nets (lead_of leads) (rest_at row b p))
@@ -71,8 +70,8 @@ module _ {cs : List (List ℕ)} {row marks old : List ℕ} (ready : XorsOf cs ro
       (xor-at s.leads ready.marked s.at))
       (xor-at old ready.marked x))
 
-  module _ {list : List ℕ} {i b at : ℕ} {m : Board} {p : Pass} (making : Making cs old m.leads p.tally) (k : Summed row marks old list i b at m p)
-      (x : XorAt row marks b at) (more : p.count < length m.keys) where
+  module _ {S B b at : ℕ} {xors : KeyTable S B} {s : State} (making : Making cs old s.row s.tally) (table : XorTable row marks old xors)
+      (x : XorAt row marks b at) where
     abbrev key : ℕ
     key = key_at old row b at
 
@@ -80,110 +79,86 @@ module _ {cs : List (List ℕ)} {row marks old : List ℕ} (ready : XorsOf cs ro
     sum = sum_at old row b at
 
     abbrev mid : State
-    mid = join_alone m.leads p.tally key sum
+    mid = join_alone s.row s.tally key sum
 
-    alone_here : AloneMade cs old m.leads p.tally key sum mid
+    alone_here : AloneMade cs old s.row s.tally key sum mid
     alone_here = alone_made ready making x
 
     -- what has been matched is what was, or the literal's
-    upto : (P : ℕ → ℕ → Type 0) → ((c q : ℕ) → XorAt row marks c q → Past list i c ⊎ ((b ≡ c) × (q < at)) → P c q) → P b at
+    upto : (list : List ℕ) (i : ℕ) (P : ℕ → ℕ → Type 0) → ((c q : ℕ) → XorAt row marks c q → Past list i c ⊎ ((b ≡ c) × (q < at)) → P c q) → P b at
         → (c q : ℕ) → XorAt row marks c q → Past list i c ⊎ ((b ≡ c) × (q < at + 1)) → P c q
-    upto P below here c q y (inl d) = below c q y (inl d)
-    upto P below here c q y (inr (e, l)) = go (ℕ_discrete at q)
+    upto list i P below here c q y (inl d) = below c q y (inl d)
+    upto list i P below here c q y (inr (e, l)) = go (ℕ_discrete at q)
       where
         go : Dec (at ≡ q) → P c q
         go (yes f) = subst₂ P e f here
         go (no n) = below c q y (inr (e, omega arith))
 
-    module _ (m' : Board) (p' : Pass) where
+    module _ (xors' : KeyTable S B) (s' : State) where
       abbrev Sums : ℕ → ℕ → Type 0
-      Sums = SummedAt row old m'.leads p'.tally p'.count m'.keys m'.sums
+      Sums = SummedAt row old s'.row s'.tally xors'
 
       abbrev Alone : ℕ → ℕ → Type 0
-      Alone c q = key_at old row c q < 65536 → JoinedBy m'.leads p'.tally (sum_at old row c q) (2 * key_at old row c q)
+      Alone c q = key_at old row c q < 65536 → JoinedBy s'.row s'.tally (sum_at old row c q) (2 * key_at old row c q)
 
-      again_added : Again key sum (record { leads = mid.row; keys = m.keys; sums = m.sums; next = m.next; heads = m.heads })
-          (record { tally = mid.tally; count = p.count }) m' p' → Added cs row marks old list i b at m p m' p'
+      again_added : Again key sum xors mid xors' s' → Added cs row marks old b at xors s xors' s'
       again_added a =
           record {
             making = c.making;
             later = later;
-            summed = record {
-              table = rw (a.count, a.keys, a.sums, a.next, a.heads) k.table;
-              summed = upto Sums below (record { slot = a.slot; taken = omega (arith, a.count, a.taken); key = ap (λ (l : List ℕ). get_or l a.slot 0) a.keys ∙ a.same; joined = here });
-              alone = upto Alone (λ d q y l h. later _ _ (k.alone d q y l h)) (λ h. c.later _ _ (alone_here.joined h));
+            table = rw a.kept table;
+            summed = λ list i k. record {
+              summed = upto list i Sums (λ d q y l. below (k.summed d q y l)) (subst⁻¹ (λ (w : KeyTable S B). SummedAt row old s'.row s'.tally w b at) a.kept (record { slot = a.slot; taken = a.taken; key = a.same; joined = joined_sym s'.row s'.tally sum other c.joined }));
+              alone = upto list i Alone (λ d q y l h. later _ _ (k.alone d q y l h)) (λ h. c.later _ _ (alone_here.joined h));
             };
-            few = omega (arith, a.count);
+            few = rw a.kept (omega arith);
           }
         where
-          o : XorSlot row marks old (get_or m.keys a.slot 0) (get_or m.sums a.slot 0)
-          o = k.table.are a.slot a.taken
+          o : XorSlot row marks old (get_or xors.keys a.slot 0) (get_or xors.values a.slot 0)
+          o = table.are a.slot a.taken
 
           other : ℕ
-          other = get_or m.sums a.slot 0
+          other = get_or xors.values a.slot 0
 
           other_high : net other ≤ length old
           other_high = subst⁻¹ (λ (n : ℕ). net n ≤ length old) o.sum_is (sum_high ready o.at o.leads)
 
-          c : Carried cs old mid.row mid.tally sum other (record { row = m'.leads; tally = p'.tally })
+          c : Carried cs old mid.row mid.tally sum other s'
           c =
               subst⁻¹ (Carried cs old mid.row mid.tally sum other) a.joined
               (join_makes cs old mid.row mid.tally alone_here.making sum other (slot_drawn x o a.same) (sum_high ready x old) other_high)
 
-          later : Later m.leads p.tally m'.leads p'.tally
+          later : Later s.row s.tally s'.row s'.tally
           later u v j = c.later u v (alone_here.later u v j)
 
-          below : (d q : ℕ) → XorAt row marks d q → Past list i d ⊎ ((b ≡ d) × (q < at)) → Sums d q
-          below d q y l =
-              let s = k.summed d q y l in
-              record {
-                slot = s.slot;
-                taken = omega (arith, a.count, s.taken);
-                key = ap (λ (l : List ℕ). get_or l s.slot 0) a.keys ∙ s.key;
-                joined = subst⁻¹ (λ (l : List ℕ). JoinedBy m'.leads p'.tally (get_or l s.slot 0) (sum_at old row d q)) a.sums (later _ _ s.joined);
-              }
+          below : {d q : ℕ} → SummedAt row old s.row s.tally xors d q → Sums d q
+          below {d} {q} z =
+              subst⁻¹ (λ (w : KeyTable S B). SummedAt row old s'.row s'.tally w d q) a.kept
+              (record { slot = z.slot; taken = z.taken; key = z.key; joined = later _ _ z.joined })
 
-          here : JoinedBy m'.leads p'.tally (get_or m'.sums a.slot 0) sum
-          here = subst⁻¹ (λ (l : List ℕ). JoinedBy m'.leads p'.tally (get_or l a.slot 0) sum) a.sums (joined_sym m'.leads p'.tally sum other c.joined)
-
-      entered_added : Entered key sum (record { leads = mid.row; keys = m.keys; sums = m.sums; next = m.next; heads = m.heads })
-          (record { tally = mid.tally; count = p.count }) m' p' → Added cs row marks old list i b at m p m' p'
-      entered_added a =
+      opened_added : Opened key sum xors mid xors' s' → Added cs row marks old b at xors s xors' s'
+      opened_added a =
           record {
-            making = subst₂ (Making cs old) (sym a.leads) (sym a.tally) alone_here.making;
+            making = subst⁻¹ (λ (w : State). Making cs old w.row w.tally) a.same alone_here.making;
             later = later;
-            summed = record {
-              table = record {
-                table = rw a.count a.table;
-                room = rw (a.keys, a.sums, length-set m.keys p.count key, length-set m.sums p.count sum) k.table.room;
-                are = λ j l. are j (ℕ_discrete j p.count) (omega (arith, a.count));
-                once = λ i j u v e. once i j (ℕ_discrete i p.count) (ℕ_discrete j p.count) (omega (arith, a.count)) (omega (arith, a.count)) e;
-              };
-              summed = upto Sums below (record { slot = p.count; taken = omega (arith, a.count); key = key_new; joined = inr (ap (lead_of m'.leads) sum_new) });
-              alone = upto Alone (λ d q y l h. later _ _ (k.alone d q y l h)) (λ h. after _ _ (alone_here.joined h));
+            table = record {
+              are = λ j l. are j (ℕ_discrete j xors.count) (omega (arith, l, a.entered.count));
+              once = λ i j u v e. once i j (ℕ_discrete i xors.count) (ℕ_discrete j xors.count) (omega (arith, u, a.entered.count)) (omega (arith, v, a.entered.count)) e;
             };
-            few = omega (arith, a.count);
+            summed = λ list i k. record {
+              summed = upto list i Sums (λ d q y l. below (k.summed d q y l)) (record { slot = xors.count; taken = omega (arith, a.entered.count); key = a.entered.key_is; joined = inr (ap (lead_of s'.row) a.entered.value_is) });
+              alone = upto list i Alone (λ d q y l h. later _ _ (k.alone d q y l h)) (λ h. after _ _ (alone_here.joined h));
+            };
+            few = omega (arith, a.entered.count);
           }
         where
-          after : Later mid.row mid.tally m'.leads p'.tally
-          after u v j = subst₂ (λ (l : List ℕ) (t : Tally). JoinedBy l t u v) (sym a.leads) (sym a.tally) j
+          after : Later mid.row mid.tally s'.row s'.tally
+          after u v j = subst⁻¹ (λ (w : State). JoinedBy w.row w.tally u v) a.same j
 
-          later : Later m.leads p.tally m'.leads p'.tally
+          later : Later s.row s.tally s'.row s'.tally
           later u v j = after u v (alone_here.later u v j)
 
-          key_new : get_or m'.keys p.count 0 ≡ key
-          key_new = ap (λ (l : List ℕ). get_or l p.count 0) a.keys ∙ get_or-set_same m.keys p.count key 0 more
-
-          sum_new : get_or m'.sums p.count 0 ≡ sum
-          sum_new = ap (λ (l : List ℕ). get_or l p.count 0) a.sums ∙ get_or-set_same m.sums p.count sum 0 (omega (arith, more, k.table.room))
-
-          key_kept : (j : ℕ) → j ≢ p.count → get_or m'.keys j 0 ≡ get_or m.keys j 0
-          key_kept j n = ap (λ (l : List ℕ). get_or l j 0) a.keys ∙ get_or-set_other m.keys p.count j key 0 n
-
-          sum_kept : (j : ℕ) → j ≢ p.count → get_or m'.sums j 0 ≡ get_or m.sums j 0
-          sum_kept j n = ap (λ (l : List ℕ). get_or l j 0) a.sums ∙ get_or-set_other m.sums p.count j sum 0 n
-
-          are : (j : ℕ) → Dec (j ≡ p.count) → j ≤ p.count → XorSlot row marks old (get_or m'.keys j 0) (get_or m'.sums j 0)
+          are : (j : ℕ) → Dec (j ≡ xors.count) → j ≤ xors.count → XorSlot row marks old (get_or xors'.keys j 0) (get_or xors'.values j 0)
           are j (yes e) l =
               record {
                 leads = old;
@@ -192,45 +167,38 @@ module _ {cs : List (List ℕ)} {row marks old : List ℕ} (ready : XorsOf cs ro
                 start = b;
                 place = at;
                 at = x;
-                key_is = ap (λ (i : ℕ). get_or m'.keys i 0) e ∙ key_new;
-                sum_is = ap (λ (i : ℕ). get_or m'.sums i 0) e ∙ sum_new;
+                key_is = ap (λ (i : ℕ). get_or xors'.keys i 0) e ∙ a.entered.key_is;
+                sum_is = ap (λ (i : ℕ). get_or xors'.values i 0) e ∙ a.entered.value_is;
               }
-          are j (no n) l = subst₂ (XorSlot row marks old) (sym (key_kept j n)) (sym (sum_kept j n)) (k.table.are j (omega arith))
+          are j (no n) l =
+              let h : j < xors.count = omega arith in
+              subst₂ (XorSlot row marks old) (sym (a.entered.keeps.key j h)) (sym (a.entered.keeps.value j h)) (table.are j h)
 
-          once : (i j : ℕ) → Dec (i ≡ p.count) → Dec (j ≡ p.count) → i ≤ p.count → j ≤ p.count → get_or m'.keys i 0 ≡ get_or m'.keys j 0 → i ≡ j
+          once : (i j : ℕ) → Dec (i ≡ xors.count) → Dec (j ≡ xors.count) → i ≤ xors.count → j ≤ xors.count → get_or xors'.keys i 0 ≡ get_or xors'.keys j 0 → i ≡ j
           once i j (yes d) (yes e) u v q = d ∙ sym e
           once i j (yes d) (no n) u v q =
-              absurd (a.none j (omega arith) (sym (key_kept j n) ∙ sym q ∙ ap (λ (i : ℕ). get_or m'.keys i 0) d ∙ key_new))
+              let h : j < xors.count = omega arith in
+              absurd (a.none j h (sym (a.entered.keeps.key j h) ∙ sym q ∙ ap (λ (i : ℕ). get_or xors'.keys i 0) d ∙ a.entered.key_is))
           once i j (no n) (yes e) u v q =
-              absurd (a.none i (omega arith) (sym (key_kept i n) ∙ q ∙ ap (λ (i : ℕ). get_or m'.keys i 0) e ∙ key_new))
-          once i j (no n) (no o) u v q = k.table.once i j (omega arith) (omega arith) (sym (key_kept i n) ∙ q ∙ key_kept j o)
+              let h : i < xors.count = omega arith in
+              absurd (a.none i h (sym (a.entered.keeps.key i h) ∙ q ∙ ap (λ (i : ℕ). get_or xors'.keys i 0) e ∙ a.entered.key_is))
+          once i j (no n) (no o) u v q =
+              let h : i < xors.count = omega arith in
+              let g : j < xors.count = omega arith in
+              table.once i j h g (sym (a.entered.keeps.key i h) ∙ q ∙ a.entered.keeps.key j g)
 
-          below : (d q : ℕ) → XorAt row marks d q → Past list i d ⊎ ((b ≡ d) × (q < at)) → Sums d q
-          below d q y l =
-              let s = k.summed d q y l in
-              let n : s.slot ≢ p.count = λ e. omega (arith, s.taken) in
+          below : {d q : ℕ} → SummedAt row old s.row s.tally xors d q → Sums d q
+          below {d} {q} z =
               record {
-                slot = s.slot;
-                taken = omega (arith, a.count, s.taken);
-                key = key_kept s.slot n ∙ s.key;
-                joined = subst⁻¹ (λ (v : ℕ). JoinedBy m'.leads p'.tally v (sum_at old row d q)) (sum_kept s.slot n) (later _ _ s.joined);
+                slot = z.slot;
+                taken = omega (arith, a.entered.count, z.taken);
+                key = a.entered.keeps.key z.slot z.taken ∙ z.key;
+                joined = subst⁻¹ (λ (v : ℕ). JoinedBy s'.row s'.tally v (sum_at old row d q)) (a.entered.keeps.value z.slot z.taken) (later _ _ z.joined);
               }
 
-    added : {m' : Board} {p' : Pass} → Stepped key sum m p m' p' → Added cs row marks old list i b at m p m' p'
-    added {m'} {p'} (inl a) = again_added m' p' a
-    added {m'} {p'} (inr a) = entered_added m' p' a
-
--- every row has kept its length
-pub record Kept (m m' : Board) : Type 0 where
-  pub leads : length m'.leads ≡ length m.leads
-  pub keys : length m'.keys ≡ length m.keys
-  pub sums : length m'.sums ≡ length m.sums
-  pub next : length m'.next ≡ length m.next
-  pub heads : length m'.heads ≡ length m.heads
-
-pub kept_on : {m m' m'' : Board} → Kept m m' → Kept m' m'' → Kept m m''
-kept_on s k =
-    record { leads = k.leads ∙ s.leads; keys = k.keys ∙ s.keys; sums = k.sums ∙ s.sums; next = k.next ∙ s.next; heads = k.heads ∙ s.heads }
+    added : {xors' : KeyTable S B} {s' : State} → Stepped key sum xors s xors' s' → Added cs row marks old b at xors s xors' s'
+    added {xors'} {s'} (inl a) = again_added xors' s' a
+    added {xors'} {s'} (inr a) = opened_added xors' s' a
 
 module _ {row marks old leads : List ℕ} {t : Tally} (ready : Ready row marks old leads t) where
   pub xors_of : (cs : List (List ℕ)) → Marked cs row marks → Fits (length old) cs → XorsOf cs row marks old
@@ -254,186 +222,87 @@ module _ {row marks : List ℕ} {b end : ℕ} (s : Starts row b) (e : end ≡ b 
   unfolding is_xor
   xor_mark x = eqb-true (get_or marks end 0) 1 (ap (λ (i : ℕ). eqb (get_or marks i 0) 1) e ∙ x.marked)
 
--- what a pass that has gone over entry i leaves
-pub record ListedTo (row marks old list : List ℕ) (i : ℕ) (m : Board) (p : Pass) (m' : Board) (p' : Pass) : Type 0 where
-  pub went : Went row marks old m.leads p.tally m'.leads p'.tally
-  pub table : XorTable row marks old p'.count m'.keys m'.sums m'.next m'.heads
-  pub known : XorsKnown row marks old m'.leads p'.tally list (i + 1) p'.count m'.keys m'.sums
-  pub few : p'.count ≤ p.count + length (clause_at row (get_or list i 0))
+-- the literals of the clause at b are being taken, and place `at` is reached
+pub record ClauseTo {S B : ℕ} (row marks old : List ℕ) (b : ℕ) (xors : KeyTable S B) (s : State) (at : ℕ) (xors' : KeyTable S B) (s' : State) : Type 0 where
+  pub went : Went row marks old s.row s.tally s'.row s'.tally
+  pub table : XorTable row marks old xors'
+  pub summed : (list : List ℕ) (i : ℕ) → XorsKnown row marks old s.row s.tally list i xors → Summed row marks old list i b at xors' s'
+  pub few : xors'.count + b ≤ xors.count + at
 
--- the literals of the clause at b, which entry i of the list names, are being taken
-pub record Listing (row marks old list : List ℕ) (i b end : ℕ) (m : Board) (p : Pass) (at : ℕ) (m' : Board) (p' : Pass) : Type 0 where
-  pub low : b ≤ at
-  pub high : at ≤ end
-  pub few : p'.count + b ≤ p.count + at
-  pub summed : Summed row marks old list i b at m' p'
-  pub went : Went row marks old m.leads p.tally m'.leads p'.tally
-  pub kept : Kept m m'
+-- the clause is no XOR
+pub clause_skipped : {S B : ℕ} {row marks old new : List ℕ} {t : Tally} {xors : KeyTable S B} {b end : ℕ} → Starts row b → end ≡ b + length (clause_at row b) → get_or marks end 0 ≢ 1
+    → {list : List ℕ} {i : ℕ} → get_or list i 0 ≡ b → XorsKnown row marks old new t list i xors → XorsKnown row marks old new t list (i + 1) xors
+clause_skipped {row = row} {marks} {b = b} starts e mark {list} {i} is known =
+    record {
+      summed = λ c q x d. known.summed c q x (past c q x (past_or_here list i c d));
+      alone = λ c q x d. known.alone c q x (past c q x (past_or_here list i c d));
+    }
+  where
+    past : (c q : ℕ) → XorAt row marks c q → (get_or list i 0 ≡ c) ⊎ Past list i c → Past list i c
+    past c q x (inl f) = absurd (mark (xor_mark starts e (subst (λ (a : ℕ). XorAt row marks a q) (sym f ∙ is) x)))
+    past c q x (inr d) = d
 
-module _ {row marks old list : List ℕ} {i : ℕ} (m : Board) (p : Pass) (ready : Ready row marks old m.leads p.tally) (starts : AreStarts row list) (inside : i < length list)
-    (table : XorTable row marks old p.count m.keys m.sums m.next m.heads)
-    (known : XorsKnown row marks old m.leads p.tally list i p.count m.keys m.sums) where
-  abbrev b : ℕ
-  b = get_or list i 0
+pub clause_begins : {S B : ℕ} {row marks old : List ℕ} (b : ℕ) {xors : KeyTable S B} {s : State} → XorTable row marks old xors → ClauseTo row marks old b xors s b xors s
+clause_begins {row = row} {marks} b table =
+    record {
+      went = went_none;
+      table = table;
+      summed = λ list i known. record {
+        summed = λ c q x d. known.summed c q x (past list i c q x d);
+        alone = λ c q x d. known.alone c q x (past list i c q x d);
+      };
+      few = omega arith;
+    }
+  where
+    past : (list : List ℕ) (i c q : ℕ) → XorAt row marks c q → Past list i c ⊎ ((b ≡ c) × (q < b)) → Past list i c
+    past list i c q x (inl d) = d
+    past list i c q x (inr (f, l)) = absurd (omega (arith, f, l, x.place.low))
 
-  module _ {end : ℕ} (e : end ≡ b + length (clause_at row b)) where
-    -- the clause is no XOR
-    pub listed_skipped : get_or marks end 0 ≢ 1 → ListedTo row marks old list i m p m p
-    listed_skipped mark =
-        record {
-          went = went_none;
-          table = table;
-          known =
-              record {
-                summed = λ c q x d. known.summed c q x (past c q x (past_or_here list i c d));
-                alone = λ c q x d. known.alone c q x (past c q x (past_or_here list i c d));
-              };
-          few = omega arith;
-        }
-      where
-        past : (c q : ℕ) → XorAt row marks c q → (b ≡ c) ⊎ Past list i c → Past list i c
-        past c q x (inl f) = absurd (mark (xor_mark (starts i inside) e (subst⁻¹ (λ (a : ℕ). XorAt row marks a q) f x)))
-        past c q x (inr d) = d
-
-    pub listing_begins : Listing row marks old list i b end m p b m p
-    listing_begins =
-        record {
-          low = omega arith;
-          high = omega arith;
-          few = omega arith;
-          summed = record {
-            table = table;
-            summed = λ c q x d. known.summed c q x (past c q x d);
-            alone = λ c q x d. known.alone c q x (past c q x d);
-          };
-          went = went_none;
-          kept = record { leads = refl; keys = refl; sums = refl; next = refl; heads = refl };
-        }
-      where
-        past : (c q : ℕ) → XorAt row marks c q → Past list i c ⊎ ((b ≡ c) × (q < b)) → Past list i c
-        past c q x (inl d) = d
-        past c q x (inr (f, l)) = absurd (omega (arith, f, l, x.place.low))
-
-    pub listing_ends : {at : ℕ} {m' : Board} {p' : Pass} → Listing row marks old list i b end m p at m' p' → end ≤ at → ListedTo row marks old list i m p m' p'
-    listing_ends {at} t h =
-        record {
-          went = t.went;
-          table = t.summed.table;
-          known =
-              record {
-                summed = λ c q x d. t.summed.summed c q x (past c q x (past_or_here list i c d));
-                alone = λ c q x d. t.summed.alone c q x (past c q x (past_or_here list i c d));
-              };
-          few = omega (arith, t.few, t.high, e);
-        }
-      where
-        past : (c q : ℕ) → XorAt row marks c q → (b ≡ c) ⊎ Past list i c → Past list i c ⊎ ((b ≡ c) × (q < at))
-        past c q x (inl f) = inr (f, omega (arith, h, e, (subst⁻¹ (λ (a : ℕ). XorAt row marks a q) f x).place.high))
-        past c q x (inr d) = inl d
-
-    module _ (room : (p.count + length (clause_at row b) ≤ length m.keys) × (length m.keys ≤ 4294967295)) (marked : get_or marks end 0 ≡ 1)
-        {at : ℕ} {m' : Board} {p' : Pass} (t : Listing row marks old list i b end m p at m' p') (more : at < end) where
-      literal_here : XorAt row marks b at
-      literal_here = mark_xor (starts i inside) e marked at t.low more
-
-      making_here : Making ready.of old m'.leads p'.tally
-      making_here = t.went.making ready.of ready.marked ready.fits ready.making
-
-      literals : end - b ≡ length (clause_at row b)
-      literals = omega (arith, e)
-
-      keys_more : p'.count < length m'.keys
-      keys_more = omega (arith, t.few, room.0, e, more, t.kept.keys)
-
-      -- what taking the literal asks
-      pub listing_packable : Packable old row b (end - b) at
-      listing_packable = subst⁻¹ (λ (n : ℕ). Packable old row b n at) literals (xor_packable (xors_here ready) literal_here)
-
-      pub listing_room : Room m' p' × (p'.tally.joins < 4294967294)
-      listing_room = let joins = joins_few (xors_here ready) making_here in (
-        record {
-          table = t.summed.table.table;
-          keys = keys_more;
-          sums = omega (arith, keys_more, t.summed.table.room);
-          count = omega (arith, keys_more, room.1, t.kept.keys);
-          joins = omega (arith, joins);
-        },
-        joins,
-      )
-
-      pub listing_on : {m'' : Board} {p'' : Pass} → Stepped (rest_along old row b (end - b) at).key (sum_along old row b (end - b) at) m' p' m'' p'' → Kept m' m''
-          → Listing row marks old list i b end m p (at + 1) m'' p''
-      unfolding rest_of key_at sum_at rest_at
-      listing_on {m''} {p''} h k =
-          record {
-            low = omega (arith, t.low);
-            high = omega arith;
-            few = omega (arith, t.few, d.few);
-            summed = d.summed;
-            went =
-                record {
-                  making = λ cs u v g. (added_for (xors_of ready cs u v) (t.went.making cs u v g)).making;
-                  later = λ u v j. d.later u v (t.went.later u v j);
-                };
-            kept = kept_on t.kept k;
-          }
-        where
-          added_for : {cs : List (List ℕ)} → XorsOf cs row marks old → Making cs old m'.leads p'.tally → Added cs row marks old list i b at m' p' m'' p''
-          added_for o g =
-              added o g t.summed literal_here keys_more
-              (subst₂ (λ (x y : ℕ). Stepped x y m' p' m'' p'')
-              (ap (λ (n : ℕ). packed (odd_nets (lead_of old) (others row at b n))) literals)
-              (ap (λ (n : ℕ). flip (not (odd_sign (lead_of old) (others row at b n))) (get_or row at 0)) literals) h)
-
-          d : Added ready.of row marks old list i b at m' p' m'' p''
-          d = added_for (xors_here ready) making_here
-
--- The list
-
--- the clauses of the entries below number i have been taken
-pub record Listed (row marks old list : List ℕ) (m : Board) (p : Pass) (i : ℕ) (m' : Board) (p' : Pass) : Type 0 where
-  pub inside : i ≤ length list
-  pub table : XorTable row marks old p'.count m'.keys m'.sums m'.next m'.heads
-  pub known : XorsKnown row marks old m'.leads p'.tally list i p'.count m'.keys m'.sums
-  pub went : Went row marks old m.leads p.tally m'.leads p'.tally
-  pub few : p'.count + span_of row (drop i list) ≤ p.count + span_of row list
-  pub kept : Kept m m'
-
-module _ {row marks old list : List ℕ} (m : Board) (p : Pass) where
-  pub listed_begins : XorTable row marks old p.count m.keys m.sums m.next m.heads
-      → XorsKnown row marks old m.leads p.tally list 0 p.count m.keys m.sums → Listed row marks old list m p 0 m p
-  listed_begins table known =
+module _ {S B : ℕ} {row marks old : List ℕ} {b : ℕ} {xors : KeyTable S B} {s : State} {at : ℕ} {xors' : KeyTable S B} {s' : State}
+    (t : ClauseTo row marks old b xors s at xors' s') {end : ℕ} (e : end ≡ b + length (clause_at row b)) where
+  pub clause_known : end ≤ at → (list : List ℕ) (i : ℕ) → get_or list i 0 ≡ b → XorsKnown row marks old s.row s.tally list i xors
+      → XorsKnown row marks old s'.row s'.tally list (i + 1) xors'
+  clause_known h list i is known =
+      let k = t.summed list i known in
       record {
-        inside = omega arith;
-        table = table;
-        known = known;
-        went = went_none;
-        few = omega (arith, span_whole row list);
-        kept = record { leads = refl; keys = refl; sums = refl; next = refl; heads = refl };
+        summed = λ c q x d. k.summed c q x (past c q x (past_or_here list i c d));
+        alone = λ c q x d. k.alone c q x (past c q x (past_or_here list i c d));
       }
+    where
+      past : (c q : ℕ) → XorAt row marks c q → (get_or list i 0 ≡ c) ⊎ Past list i c → Past list i c ⊎ ((b ≡ c) × (q < at))
+      past c q x (inl f) = let g = sym is ∙ f in inr (g, omega (arith, h, e, (subst⁻¹ (λ (a : ℕ). XorAt row marks a q) g x).place.high))
+      past c q x (inr d) = inl d
 
-  module _ {i : ℕ} {m' : Board} {p' : Pass} (t : Listed row marks old list m p i m' p') where
-    pub listed_ready : Ready row marks old m.leads p.tally → Ready row marks old m'.leads p'.tally
-    listed_ready r = ready_on r t.went
+  module _ (ready : Ready row marks old s.row s.tally) (starts : Starts row b) (marked : get_or marks end 0 ≡ 1) (low : b ≤ at) (more : at < end) where
+    literal_here : XorAt row marks b at
+    literal_here = mark_xor starts e marked at low more
 
-    pub listed_room : (p.count + span_of row list ≤ length m.keys) × (length m.keys ≤ 4294967295) → i < length list
-        → (p'.count + length (clause_at row (get_or list i 0)) ≤ length m'.keys) × (length m'.keys ≤ 4294967295)
-    listed_room room l = (omega (arith, room.0, t.few, span_step row list i l, t.kept.keys), omega (arith, room.1, t.kept.keys))
+    literals : end - b ≡ length (clause_at row b)
+    literals = omega (arith, e)
 
-    pub listed_on : i < length list → {m'' : Board} {p'' : Pass} → ListedTo row marks old list i m' p' m'' p'' → Kept m' m'' → Listed row marks old list m p (i + 1) m'' p''
-    listed_on l n k =
+    -- what taking the literal asks
+    pub clause_packable : Packable old row b (end - b) at
+    clause_packable = subst⁻¹ (λ (n : ℕ). Packable old row b n at) literals (xor_packable (xors_here ready) literal_here)
+
+    pub clause_joins : s'.tally.joins < 4294967294
+    clause_joins = joins_few (xors_here ready) (went_making ready t.went)
+
+    pub clause_on : {xors'' : KeyTable S B} {s'' : State} → Stepped (rest_along old row b (end - b) at).key (sum_along old row b (end - b) at) xors' s' xors'' s'' → ClauseTo row marks old b xors s (at + 1) xors'' s''
+    unfolding rest_of key_at sum_at rest_at
+    clause_on {xors''} {s''} h =
         record {
-          inside = omega arith;
-          table = n.table;
-          known = n.known;
-          went = went_then t.went n.went;
-          few = omega (arith, t.few, n.few, span_step row list i l);
-          kept = kept_on t.kept k;
+          went = record { making = λ cs u v g. (added_for (xors_of ready cs u v) (t.went.making cs u v g)).making; later = λ u v j. d.later u v (t.went.later u v j) };
+          table = d.table;
+          summed = λ list i k. d.summed list i (t.summed list i k);
+          few = omega (arith, t.few, d.few);
         }
+      where
+        added_for : {cs : List (List ℕ)} → XorsOf cs row marks old → Making cs old s'.row s'.tally → Added cs row marks old b at xors' s' xors'' s''
+        added_for o g =
+            added o g t.table literal_here
+            (subst₂ (λ (x y : ℕ). Stepped x y xors' s' xors'' s'')
+            (ap (λ (n : ℕ). packed (odd_nets (lead_of old) (others row at b n))) literals)
+            (ap (λ (n : ℕ). flip (not (odd_sign (lead_of old) (others row at b n))) (get_or row at 0)) literals) h)
 
-    pub listed_ends : length list ≤ i → XorsKnown row marks old m'.leads p'.tally list (length list) p'.count m'.keys m'.sums × (p'.count ≤ p.count + span_of row list)
-    listed_ends h = (
-      let end : i ≡ length list = omega (arith, t.inside) in
-          subst (λ (j : ℕ). XorsKnown row marks old m'.leads p'.tally list j p'.count m'.keys m'.sums) end t.known,
-      omega (arith, t.few),
-    )
+        d : Added ready.of row marks old b at xors' s' xors'' s''
+        d = added_for (xors_here ready) (went_making ready t.went)

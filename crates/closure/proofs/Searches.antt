@@ -1,24 +1,26 @@
 -- Searches by the old leads of a clause's literals.
 -- Assumes nothing.
-use mathlib.Core.Path.{◌≡◌, refl, sym, ◌∙◌, subst⁻¹}
+use mathlib.Core.Path.{◌≡◌, refl, sym, ◌∙◌, subst, subst⁻¹}
 use mathlib.Core.Logic.{◌≢◌, ◌⊎◌, inl, inr}
 use mathlib.Core.Bool.{Bool, true, false, not, true≢false}
 use mathlib.Core.List.{List, ◌∷◌}
-use Prim.Native.Nat.{ℕ, ◌+◌, ◌*◌, ◌≤◌, ◌<◌}
+use Prim.Native.Nat.{ℕ, ◌+◌, ◌-◌, ◌*◌, ◌≤◌, ◌<◌}
+use Rattle.std.proofs.Common.{Option, None, Some, MatchOption, MatchBool}
+use Rattle.std.specs.Option.{is_some}
+use Rattle.std.specs.List.{HoldsAt, AllWithin, range_with_len}
+use Rattle.std.proofs.lemmas.List.FromFn.{length-range_with_len, get_or-range_with_len}
 use native.Mathlib.Omega.{arith}
 use native.Mathlib.Decide.{dec_lt, ℕ_discrete}
 use lib.Dec.{eqb}
 use lib.ListN.{length, get_or}
-use borrow.Author.Tests.{eq-eqb, ne_eqb, eqb-true}
+use borrow.Author.Tests.{eq-eqb, ne_eqb}
 use Rattle.clauses.proofs.Lists.{and_both, not_eqb, eqb_not}
 use Rattle.clauses.specs.Code.{negate, net}
 use Rattle.clauses.proofs.Codes.{negate_negate, net_negate}
-use Rattle.clauses.specs.Row.{clause_at}
 use Rattle.clauses.specs.Sign.{flip, is_inverse}
-use Rattle.clauses.proofs.Rows.{literal_some, clause_ended, clause_fits}
 use Rattle.clauses.proofs.Signs.{is_inverse_negate}
 use Rattle.rules.specs.Answer.{lead_of}
-use Rattle.closure.specs.Passing.{lead_at, is_other, is_with, is_ending, First}
+use Rattle.closure.specs.Passing.{lead_at, is_other, First, FirstOf, Tells}
 
 pub lead_false : (old : List ℕ) → lead_of old 0 ≡ 0
 unfolding lead_of is_inverse
@@ -27,17 +29,6 @@ lead_false old = refl
 pub lead_true : (old : List ℕ) → lead_of old 1 ≡ 1
 unfolding lead_of is_inverse
 lead_true old = refl
-
--- the clause that is walked from a place ends at the first 0
-pub clause_ending : (row : List ℕ) (b : ℕ) → b ≤ length row → First (is_ending row) b (length row) (b + length (clause_at row b))
-unfolding is_ending
-clause_ending row b h =
-    record {
-      low = omega arith;
-      high = clause_fits row b h;
-      before = λ q k j. ne_eqb (get_or row q 0) 0 (literal_some row b q k j);
-      here = λ k. eq-eqb (get_or row (b + length (clause_at row b)) 0) 0 (clause_ended row b);
-    }
 
 -- The test
 
@@ -68,22 +59,6 @@ module _ (row old : List ℕ) (skip y q : ℕ) where
       go (no m) (yes e) = inr e
       go (no m) (no k) = absurd (true≢false (sym (eqb_not (lead_at row old q) y k) ∙ other_rest n m ∙ h))
 
-module _ (row old : List ℕ) (skip x q : ℕ) where
-  pub with_is : is_with row old skip x q ≡ true → (q ≢ skip) × (lead_at row old q ≡ x)
-  unfolding is_with
-  with_is h = let p = and_both _ _ h in (not_eqb q skip p.0, eqb-true (lead_at row old q) x p.1)
-
-  pub with_skip : q ≡ skip → false ≡ is_with row old skip x q
-  unfolding is_with
-  with_skip e = rw (eq-eqb q skip e)
-
-  pub with_rest : q ≢ skip → eqb (lead_at row old q) x ≡ is_with row old skip x q
-  unfolding is_with
-  with_rest n = rw (ne_eqb q skip n)
-
-  pub not_with : is_with row old skip x q ≡ false → q ≢ skip → lead_at row old q ≢ x
-  not_with h n e = true≢false (sym (eq-eqb (lead_at row old q) x e) ∙ with_rest n ∙ h)
-
 -- the lead of an inverse
 pub lead_negate : (old : List ℕ) (c : ℕ) → lead_of old (negate c) ≡ negate (lead_of old c)
 unfolding lead_of
@@ -101,16 +76,6 @@ pub record Upto (P : ℕ → Type 0) (from q : ℕ) : Type 0 where
   pub each : (p : ℕ) → from ≤ p → p < q → P p
 
 module _ {P : ℕ → Type 0} {from : ℕ} where
-  pub upto_begin : Upto P from from
-  upto_begin = record { low = omega arith; each = λ p l k. absurd (omega arith) }
-
-  pub upto_on : {q : ℕ} → Upto P from q → P q → Upto P from (q + 1)
-  upto_on {q} k e = record { low = omega (arith, k.low); each = λ p l s. go p l s (ℕ_discrete p q) }
-    where
-      go : (p : ℕ) → from ≤ p → p < q + 1 → Dec (p ≡ q) → P p
-      go p l s (yes d) = subst⁻¹ P d e
-      go p l s (no n) = k.each p l (omega arith)
-
   pub upto_over : {q r : ℕ} → Upto P from q → q ≤ r → ((p : ℕ) → q ≤ p → p < r → P p) → Upto P from r
   upto_over {q} {r} k h block = record { low = omega (arith, k.low); each = λ p l s. go p l s (dec_lt p q) }
     where
@@ -122,15 +87,46 @@ module _ {P : ℕ → Type 0} {from : ℕ} where
 abbrev pub Passed : (ℕ → Bool) → ℕ → ℕ → ℕ → Type 0
 Passed f from to q = Upto (λ (p : ℕ). f p ≡ false) from q × (q ≤ to)
 
-module _ {f : ℕ → Bool} {from to : ℕ} where
-  pub passed_begin : from ≤ to → Passed f from to from
-  passed_begin h = (upto_begin, h)
+-- Searches over the numbers of a range
 
-  pub passed_on : {q : ℕ} → Passed f from to q → q < to → f q ≡ false → Passed f from to (q + 1)
-  passed_on k h e = (upto_on k.0 e, omega arith)
+-- the first one that passes
+pub first_of : (f : ℕ → Bool) {from to : ℕ} → from ≤ to → (r : Option ℕ)
+    → MatchOption r ((k : ℕ) → from ≤ k → k < to → f k ≡ false) (λ i. (from ≤ i) × (i < to) × (f i ≡ true) × ((k : ℕ) → from ≤ k → k < i → f k ≡ false)) → FirstOf f from to r
+first_of f h None n = record { low = h; high = omega arith; before = n; here = λ l. absurd (omega arith) }
+first_of f h (Some i) (l, m, t, b) = (m, record { low = l; high = omega arith; before = b; here = λ k. t })
 
-  pub first_here : {q : ℕ} → Passed f from to q → f q ≡ true → First f from to q
-  first_here k e = record { low = k.0.low; high = k.1; before = k.0.each; here = λ h. e }
+-- .. where none is passed over before the search begins
+pub first_after : (f : ℕ → Bool) {from at to : ℕ} → from ≤ at → at ≤ to → ((k : ℕ) → from ≤ k → k < at → f k ≡ false) → (r : Option ℕ)
+    → MatchOption r ((k : ℕ) → at ≤ k → k < to → f k ≡ false) (λ i. (at ≤ i) × (i < to) × (f i ≡ true) × ((k : ℕ) → at ≤ k → k < i → f k ≡ false)) → FirstOf f from to r
+first_after f {from} {at} {to} l h passed None n = record { low = omega arith; high = omega arith; before = λ k a b. go k a b (dec_lt k at); here = λ m. absurd (omega arith) }
+  where
+    go : (k : ℕ) → from ≤ k → k < to → Dec (k < at) → f k ≡ false
+    go k a b (yes d) = passed k a d
+    go k a b (no d) = n k (omega arith) b
+first_after f {from} {at} l h passed (Some i) (low, m, t, b) = (m, record { low = omega arith; high = omega arith; before = λ k a d. go k a d (dec_lt k at); here = λ z. t })
+  where
+    go : (k : ℕ) → from ≤ k → k < i → Dec (k < at) → f k ≡ false
+    go k a d (yes z) = passed k a z
+    go k a d (no z) = b k (omega arith) d
 
-  pub first_none : {q : ℕ} → Passed f from to q → to ≤ q → First f from to q
-  first_none k h = record { low = k.0.low; high = k.1; before = k.0.each; here = λ l. absurd (omega arith) }
+pub none_found : (f : ℕ → Bool) {from to : ℕ} (r : Option ℕ) → is_some r ≡ false → FirstOf f from to r → First f from to to
+none_found f None e h = h
+none_found f (Some q) e h = absurd (true≢false e)
+
+pub one_found : (f : ℕ → Bool) {from to : ℕ} (r : Option ℕ) → is_some r ≡ true → FirstOf f from to r → (q : ℕ) × (q < to) × First f from to q
+one_found f None e h = absurd (true≢false (sym e))
+one_found f (Some q) e h = (q, h.0, h.1)
+
+module _ (P : ℕ → Type 0) (from to : ℕ) where
+  in_range : (q : ℕ) → from ≤ q → q < to → get_or (range_with_len from (to - from)) (q - from) 0 ≡ q
+  in_range q l h =
+      let k : q - from < to - from = omega arith in
+      get_or-range_with_len from (to - from) (q - from) 0 k ∙ omega arith
+
+  -- whether one passes
+  pub any_told : (r : Bool) → MatchBool r ((k : ℕ) × (k < length (range_with_len from (to - from))) × HoldsAt P (range_with_len from (to - from)) k) (AllWithin (λ q. ¬ P q) (range_with_len from (to - from)) 0 (length (range_with_len from (to - from))))
+      → Tells ((q : ℕ) × (from ≤ q) × (q < to) × P q) r
+  any_told true (k, h, p) =
+      let l : k < to - from = omega (arith, length-range_with_len from (to - from)) in
+      (from + k, omega arith, omega arith, subst P (get_or-range_with_len from (to - from) k 0 l) (p 0))
+  any_told false n = λ (q, l, h, p). n (q - from) 0 (omega arith) (omega (arith, length-range_with_len from (to - from))) (subst⁻¹ P (in_range q l h) p)

@@ -3,9 +3,8 @@
 use mathlib.Core.Path.{◌≡◌, sym, ◌∙◌, ap}
 use mathlib.Core.Logic.{◌≢◌}
 use mathlib.Core.List.{List}
-use Prim.Native.Nat.{ℕ, ◌-◌, ◌≤◌, ◌<◌}
+use Prim.Native.Nat.{ℕ, ◌<◌}
 use native.Mathlib.Omega.{arith}
-use lib.ListN.{length, get_or}
 use Rattle.clauses.specs.Code.{negate}
 use Rattle.clauses.proofs.Codes.{negate_other}
 use Rattle.rules.specs.Rule.{Concludes}
@@ -14,13 +13,13 @@ use Rattle.closure.specs.Making.{Kernel, Drawn, JoinedBy}
 use Rattle.closure.specs.Joining.{join_state}
 use Rattle.closure.specs.Marked.{Marked, Ready, Went}
 use Rattle.closure.specs.IteSides.{select_at, output_at, then_at, IsSide, pair_key}
-use Rattle.closure.specs.SideTable.{SideSlot, SideTable, mate_bucket, LastEntry, MatesFrom, MateAt, Mating}
+use Rattle.closure.specs.SideTable.{SideSlot, SideTable, IsEntry}
+use Rattle.closure.specs.declared.side_table.KeptSides.{KeptSides}
 use Rattle.closure.specs.declared.tally.Tally.{Tally}
 use Rattle.closure.proofs.JoinedBy.{drawn_new}
-use Rattle.closure.proofs.Going.{ready_on, join_went}
+use Rattle.closure.proofs.Going.{join_went}
 use Rattle.closure.proofs.Searches.{lead_negate, lead_true}
-use Rattle.closure.proofs.Sides.{pair_once, side_inside, side_gate, pair_gate, output_net, then_net}
-use Rattle.closure.proofs.SideTables.{table_mates}
+use Rattle.closure.proofs.Sides.{pair_once, side_gate, pair_gate, output_net, then_net}
 
 module _ {row marks old new : List ℕ} {t : Tally} (r : Ready row marks old new t) {s : ℕ} (i : IsSide row marks s) where
   -- By the select
@@ -46,44 +45,25 @@ module _ {row marks old new : List ℕ} {t : Tally} (r : Ready row marks old new
 
 -- Mates in the table
 
-module _ {row marks old new : List ℕ} {t : Tally} {s count : ℕ} {sides likes next heads : List ℕ} (m : Mating row marks old new t s count sides likes next heads) where
-  pub mating_from : (c l like b : ℕ) → (b ≡ mate_bucket (length heads) c l like) × (b < length heads) → MatesFrom row sides likes next c l like count (get_or heads b 0)
-  mating_from c l like b e = table_mates m.table c l like b e.0 e.1
-
+module _ {S B : ℕ} {row marks old new : List ℕ} {t : Tally} {s : ℕ} {sides : KeptSides S B} (r : Ready row marks old new t) (table : SideTable row marks old sides) (is_side : IsSide row marks s) where
   slot_kernel : {like j : ℕ} → SideSlot row marks old like j → like ≡ pair_key (lead_of old (negate (select_at row s))) (lead_of old (then_at row s))
       → Kernel old (then_at row s) (then_at row j)
-  slot_kernel {j = j} o e = sym (m.ready.leads.again (then_at row s)) ∙ ap (lead_of old) (sym same.1) ∙ sym o.then_is
+  slot_kernel {j = j} o e = sym (r.leads.again (then_at row s)) ∙ ap (lead_of old) (sym same.1) ∙ sym o.then_is
     where
       low : lead_of old (then_at row s) < 4294967296
-      low = omega (arith, m.ready.leads.low (then_at row s), then_net m.ready m.is-side, m.ready.nets)
+      low = omega (arith, r.leads.low (then_at row s), then_net r is_side, r.nets)
 
       same : (o.select ≡ lead_of old (negate (select_at row s))) × (o.then ≡ lead_of old (then_at row s))
       same = pair_once o.select o.then (lead_of old (negate (select_at row s))) (lead_of old (then_at row s)) o.then_low low (sym o.like_is ∙ e)
 
-  module _ {c l u like : ℕ} (ec : c ≡ negate (select_at row s)) (el : l ≡ output_at row s) (eu : u ≡ then_at row s) (ek : like ≡ pair_key (lead_of old c) (lead_of old u))
-      {k : ℕ} (o : LastEntry row sides likes c l like count k) where
+  module _ {c l u like : ℕ} (ec : c ≡ negate (select_at row s)) (el : l ≡ output_at row s) (eu : u ≡ then_at row s) (ek : like ≡ pair_key (lead_of old c) (lead_of old u)) where
     key_is : like ≡ pair_key (lead_of old (negate (select_at row s))) (lead_of old (then_at row s))
     key_is = ek ∙ rw (ec, eu)
 
-    pub mate_none : k ≤ 0 → (i : ℕ) → i < count → MateAt row old sides likes s i → ⊥
-    mate_none p i h a = omega (arith, o.none i h (record { key = a.key ∙ sym key_is; select = a.select ∙ sym ec; output = a.output ∙ sym el }))
-
-    pub mate_joined : 0 < k → {new' : List ℕ} {t' : Tally} → record { row = new'; tally = t' } ≡ join_state new t l u
+    pub mate_joined : {k : ℕ} → k < sides.table.count → IsEntry row sides.table c l like k → {new' : List ℕ} {t' : Tally} → record { row = new'; tally = t' } ≡ join_state new t l u
         → Went row marks old new t new' t' × JoinedBy new' t' (output_at row s) (then_at row s)
-    mate_joined p j =
-        let a = o.at p in
-        let w = m.table.are (k - 1) (omega (arith, o.low)) in
-        join_went m.ready
-        (mate_drawn m.ready m.is-side w.is-side (a.select ∙ ec) (a.output ∙ el) (slot_kernel w (a.key ∙ key_is)))
-        (output_net m.ready m.is-side) (then_net m.ready m.is-side) (rw (el, eu) at j)
-
--- One side is taken
-
-pub side_low : {row marks old new : List ℕ} {t : Tally} → Ready row marks old new t → {s : ℕ} → IsSide row marks s → s < 4294967296
-side_low {row} r {s} i = omega (arith, r.entries, side_inside i)
-
-pub mating_on : {row marks old new new' : List ℕ} {t t' : Tally} {s count : ℕ} {sides likes mate_next mate_heads like_next like_heads : List ℕ}
-    → Ready row marks old new t → Went row marks old new t new' t' → IsSide row marks s → SideTable row marks old count sides likes mate_next mate_heads like_next like_heads
-    → Mating row marks old new' t' s count sides likes mate_next mate_heads
-mating_on {like_next = like_next} {like_heads = like_heads} r w i t =
-    record { ready = ready_on r w; is-side = i; like_next = like_next; like_heads = like_heads; table = t }
+    mate_joined {k} h e j =
+        let w = table.are k h in
+        join_went r
+        (mate_drawn r is_side w.is-side (e.select ∙ ec) (e.output ∙ el) (slot_kernel w (e.key ∙ key_is)))
+        (output_net r is_side) (then_net r is_side) (rw (el, eu) at j)

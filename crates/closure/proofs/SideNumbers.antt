@@ -7,7 +7,6 @@ use mathlib.Core.List.{List}
 use Prim.Native.Nat.{ℕ, ◌+◌, ◌-◌, ◌*◌, ◌/◌, ◌%◌, ◌≤◌, ◌<◌}
 use native.Mathlib.Omega.{arith}
 use native.Mathlib.Decide.{ℕ_discrete}
-use native.Mathlib.Nat.{mod-lt}
 use borrow.Author.Tests.{eq-eqb, ne_eqb}
 use lib.Dec.{eqb}
 use lib.ListN.{length, get_or, set}
@@ -141,15 +140,15 @@ module _ (row : List ℕ) (s : ℕ) where
 
 -- The hubs
 
-module _ {row marks hubs links : List ℕ} {s : ℕ} (c : ChainedIn (InHub row marks (length hubs)) s hubs links) where
-  pub hub_passed : ¬ IsSide row marks s → ChainedIn (InHub row marks (length hubs)) (s + 1) hubs links
-  hub_passed n = chain_passed _ s hubs links c (λ b d. n d.is-side)
+module _ {m : ℕ} {row marks heads links : List ℕ} {s : ℕ} (c : ChainedIn (InHub row marks m) s heads links) where
+  pub hub_passed : ¬ IsSide row marks s → ChainedIn (InHub row marks m) (s + 1) heads links
+  hub_passed n = chain_passed _ s heads links c (λ b d. n d.is-side)
 
-  pub hub_linked : IsSide row marks s → (key x y : ℕ) → key ≡ pair_key x y → x ≡ select_at row s → y ≡ output_at row s → 0 < length hubs → s < length links
-      → (hubs' links' : List ℕ) → hubs' ≡ set hubs (key % length hubs) (s + 1) → links' ≡ set links s (get_or hubs (key % length hubs) 0)
-      → ChainedIn (InHub row marks (length hubs)) (s + 1) hubs' links'
-  hub_linked i key x y e p q some room =
-      chain_linked _ s hubs links c (key % length hubs) (record { is-side = i; bucket = here }) (λ b d. sym d.bucket ∙ here) (mod-lt key some) room
+  pub hub_linked : IsSide row marks s → (key x y : ℕ) → key ≡ pair_key x y → x ≡ select_at row s → y ≡ output_at row s → key % m < length heads → s < length links
+      → (heads' links' : List ℕ) → heads' ≡ set heads (key % m) (s + 1) → links' ≡ set links s (get_or heads (key % m) 0)
+      → ChainedIn (InHub row marks m) (s + 1) heads' links'
+  hub_linked i key x y e p q low room =
+      chain_linked _ s heads links c (key % m) (record { is-side = i; bucket = here }) (λ b d. sym d.bucket ∙ here) low room
     where
-      here : pair_key (select_at row s) (output_at row s) % length hubs ≡ key % length hubs
+      here : pair_key (select_at row s) (output_at row s) % m ≡ key % m
       here = rw (e, p, q)

@@ -2,13 +2,13 @@
 -- Assumes nothing.
 use mathlib.Core.Path.{◌≡◌, refl, sym, ◌∙◌, ap, subst, subst⁻¹}
 use mathlib.Core.Logic.{◌≢◌, inl, inr}
+use mathlib.Core.Bool.{Bool, true, false, true≢false}
 use mathlib.Core.List.{List}
 use Prim.Native.Nat.{ℕ, zero, suc, ◌+◌, ◌*◌, ◌≤◌, ◌<◌}
 use native.Mathlib.Omega.{arith}
 use native.Mathlib.Nat.{mul-le-mul}
 use native.Mathlib.Decide.{ℕ_discrete}
 use lib.ListN.{get_or}
-use borrow.Author.Tests.{eq-eqb, ne_eqb}
 use Rattle.clauses.specs.Limit.{max_nets}
 use Rattle.closure.specs.Passing.{lead_at}
 use Rattle.closure.specs.Holding.{Among, Holds}
@@ -28,21 +28,21 @@ hash_false : hash_of 0 ≡ 0
 unfolding hash_of
 hash_false = refl
 
-module _ (held : List ℕ) (x : ℕ) where
-  pub share_held : get_or held x 0 ≡ 1 → share_of held x ≡ 0
+module _ (held : List Bool) (x : ℕ) where
+  pub share_held : get_or held x false ≡ true → share_of held x ≡ 0
   unfolding share_of
-  share_held e = rw (eq-eqb (get_or held x 0) 1 e)
+  share_held e = rw e refl
 
-  pub share_free : get_or held x 0 ≢ 1 → share_of held x ≡ hash_of x
+  pub share_free : get_or held x false ≡ false → share_of held x ≡ hash_of x
   unfolding share_of
-  share_free n = rw (ne_eqb (get_or held x 0) 1 n)
+  share_free e = rw e refl
 
   pub share_small : share_of held x ≤ 4503599627370448
-  share_small = go (ℕ_discrete (get_or held x 0) 1)
+  share_small = go (get_or held x false) refl
     where
-      go : Dec (get_or held x 0 ≡ 1) → share_of held x ≤ 4503599627370448
-      go (yes e) = omega (arith, share_held e)
-      go (no n) = omega (arith, share_free n, hash_small x)
+      go : (m : Bool) → get_or held x false ≡ m → share_of held x ≤ 4503599627370448
+      go true e = omega (arith, share_held e)
+      go false e = omega (arith, share_free e, hash_small x)
 
 -- Sums
 
@@ -102,7 +102,7 @@ module _ (row old : List ℕ) (b p : ℕ) where
   summed_skip q s d = sum_below (λ x l (a, n). (among_on a, n)) (λ x l (a, n). (among_but a (inl d), n))
 
   -- the lead at q adds its share, with those of the places before it held
-  module _ {held : List ℕ} (q : ℕ) (holds : Holds row old b q p held) (low : b ≤ q) (apart : q ≢ p) (y : ℕ) (is : y ≡ lead_at row old q) (small : y < 2 * max_nets + 2) where
+  module _ {held : List Bool} (q : ℕ) (holds : Holds row old b q p held) (low : b ≤ q) (apart : q ≢ p) (y : ℕ) (is : y ≡ lead_at row old q) (small : y < 2 * max_nets + 2) where
     was : (x : ℕ) → x ≢ y → Among row old b (q + 1) p x → Among row old b q p x
     was x n a = among_but a (inr (λ k. n (sym k ∙ sym is)))
 
@@ -114,11 +114,11 @@ module _ (row old : List ℕ) (b p : ℕ) where
         back x a n (yes d) = again x n d
         back x a n (no d) = was x d a
 
-    met : get_or held y 0 ≡ 1 → Among row old b q p y
-    met e = holds.only y (λ z. absurd (omega (arith, e, z)))
+    met : get_or held y false ≡ true → Among row old b q p y
+    met = holds.only y
 
     pub summed_on : (s : ℕ) → Summed row old b q p s → Summed row old b (q + 1) p (s + share_of held y)
-    summed_on s h = go (ℕ_discrete (get_or held y 0) 1) (ℕ_discrete y 0)
+    summed_on s h = go (get_or held y false) refl (ℕ_discrete y 0)
       where
         Next : ℕ → Type 0
         Next k = Summed row old b (q + 1) p (s + k)
@@ -126,10 +126,10 @@ module _ (row old : List ℕ) (b p : ℕ) where
         nothing : Summed row old b (q + 1) p s → Next 0
         nothing = subst (Summed row old b (q + 1) p) (omega arith)
 
-        go : Dec (get_or held y 0 ≡ 1) → Dec (y ≡ 0) → Next (share_of held y)
-        go (yes e) d = subst⁻¹ Next (share_held held y e) (nothing (same s h (λ x n k. subst⁻¹ (Among row old b q p) k (met e))))
-        go (no e) (yes d) =
+        go : (m : Bool) → get_or held y false ≡ m → Dec (y ≡ 0) → Next (share_of held y)
+        go true e d = subst⁻¹ Next (share_held held y e) (nothing (same s h (λ x n k. subst⁻¹ (Among row old b q p) k (met e))))
+        go false e (yes d) =
             subst⁻¹ Next (share_free held y e ∙ ap hash_of d ∙ hash_false) (nothing (same s h (λ x n k. absurd (n (k ∙ d)))))
-        go (no e) (no d) =
+        go false e (no d) =
             subst⁻¹ Next (share_free held y e)
-            (sum_more y (λ (a, n). e (holds.each y a)) (subst⁻¹ (Among row old b (q + 1) p) is (among_last apart low), d) (λ x n (a, z). (among_on a, z)) (λ x n (a, z). (was x n a, z)) small h)
+            (sum_more y (λ (a, n). true≢false (sym (holds.each y a) ∙ e)) (subst⁻¹ (Among row old b (q + 1) p) is (among_last apart low), d) (λ x n (a, z). (among_on a, z)) (λ x n (a, z). (was x n a, z)) small h)

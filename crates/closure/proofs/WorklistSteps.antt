@@ -1,18 +1,19 @@
 -- How a worklist is made: clauses are seen by marks, net by net whose lead has changed; those that are seen take so many entries of the row, and every
 -- clause that changed is among them.
 -- Assumes nothing.
-use mathlib.Core.Path.{◌≡◌, refl, sym, ◌∙◌, ap, subst, subst⁻¹}
+use mathlib.Core.Path.{◌≡◌, refl, sym, ◌∙◌, ap, subst, subst⁻¹, subst₂}
 use mathlib.Core.Logic.{◌≢◌, ◌⊎◌, inl, inr, ⊎_map}
-use mathlib.Core.Bool.{Bool, true, false, not, true≢false}
+use mathlib.Core.Bool.{Bool, true, false, not, ◌||◌, true≢false}
 use mathlib.Core.List.{List, [], ◌∷◌}
 use Prim.Native.Nat.{ℕ, zero, suc, ◌+◌, ◌-◌, ◌/◌, ◌≤◌, ◌<◌}
 use native.Mathlib.Omega.{arith}
 use native.Mathlib.Numerals.{add-one}
 use native.Mathlib.Decide.{dec_lt, ℕ_discrete}
 use native.Mathlib.Nat.{not-suc-le-zero, le_of_suc-le-suc}
-use lib.Dec.{ltb}
-use lib.ListN.{length, get_or, set, take, length-set, get_or-eq_default}
+use lib.Dec.{ltb, eqb}
+use lib.ListN.{length, get_or, set, take, drop}
 use lib.Seq.{get_or-set_same, get_or-set_other, get_or-take, length-take-le}
+use Rattle.std.proofs.lemmas.List.{length-drop, get_or-drop}
 use borrow.Author.Tests.{eq-eqb, ne_eqb, lt-ltb}
 use Rattle.clauses.specs.Code.{net}
 use Rattle.clauses.specs.Chains.{Chained}
@@ -27,47 +28,42 @@ use Rattle.closure.specs.Passing.{lead_at, First}
 use Rattle.closure.specs.Marked.{Ended}
 use Rattle.closure.specs.Changes.{Moved, ReadAt}
 use Rattle.closure.specs.Occurrences.{net_at, Indexed}
-use Rattle.closure.specs.Worklist.{HasMark, Keeps, has_moved, OnList, AreStarts, span_of, Changed, constant, tie, side, HoldsChanged, HoldsAll, seen_below, Working, ListOf, SeesMovedBelow}
+use Rattle.closure.specs.Worklist.{HasMark, Keeps, has_moved, OnList, AreStarts, span_of, Changed, constant, tie, side, HoldsChanged, HoldsAll, seen_below, Working, SeesMovedBelow}
+use Rattle.closure.specs.declared.worklist.Worklist.{Worklist}
+use Rattle.closure.specs.Listing.{Listing, Listed}
 use Rattle.closure.proofs.Joining.{lead_constant, lead_inside}
 use Rattle.clauses.proofs.Starts.{literal_inside, starts_behind}
 use Rattle.closure.proofs.OccurrenceIndex.{place_start, place_tied, place_read}
 
 -- A row of marks that is written
 
-module _ (marked : List ℕ) (w v : ℕ) where
-  mark_here : w < length marked → v ≢ 0 → HasMark (set marked w v) w
-  mark_here h n e = n (sym (get_or-set_same marked w v 0 h) ∙ e)
-
-  mark_other : (x : ℕ) → x ≢ w → HasMark marked x → HasMark (set marked w v) x
-  mark_other x n h e = h (sym (get_or-set_other marked w x v 0 n) ∙ e)
-
-  mark_keeps : v ≢ 0 → Keeps marked (set marked w v)
-  mark_keeps n x h = go (ℕ_discrete x w) (dec_lt w (length marked))
-    where
-      go : Dec (x ≡ w) → Dec (w < length marked) → HasMark (set marked w v) x
-      go (yes e) (yes l) = rw e (mark_here l n)
-      go (yes e) (no l) = absurd (h (rw e (get_or-eq_default marked 0 (omega arith))))
-      go (no d) l = mark_other x d h
-
 -- one mark more
-pub mark_put : (marked : List ℕ) (w : ℕ) → w < length marked → Keeps marked (set marked w 1) × HasMark (set marked w 1) w
-mark_put marked w h = (mark_keeps marked w 1 (λ e. omega arith), mark_here marked w 1 h (λ e. omega arith))
+pub mark_put : (marked : List Bool) (w : ℕ) → w < length marked → Keeps marked (set marked w true) × HasMark (set marked w true) w
+mark_put marked w h = (λ x m. go x m (ℕ_discrete x w), get_or-set_same marked w true false h)
+  where
+    go : (x : ℕ) → HasMark marked x → Dec (x ≡ w) → HasMark (set marked w true) x
+    go x m (yes e) = rw e (get_or-set_same marked w true false h)
+    go x m (no n) = get_or-set_other marked w x true false n ∙ m
 
 -- What holds of the nets that pass a test
 
--- one net more
-pub nets_more : (f : ℕ → Bool) (P Q : ℕ → Type 0) (w r v : ℕ) → ((x : ℕ) → P x → Q x) → ((x : ℕ) → x < w → f x ≡ true → P x) → Q w → First f (w + 1) v r
-    → (x : ℕ) → x < r → f x ≡ true → Q x
-nets_more f P Q w r v on below here first x l t = go (ℕ_discrete x w) (dec_lt x w)
-  where
-    go : Dec (x ≡ w) → Dec (x < w) → Q x
-    go (yes e) d = subst⁻¹ Q e here
-    go (no n) (yes h) = on x (below x h t)
-    go (no n) (no h) = absurd (true≢false (sym t ∙ first.before x (omega arith) l))
+module _ (f : ℕ → Bool) (P Q : ℕ → Type 0) (from v : ℕ) (on : (x : ℕ) → P x → Q x) (below : (x : ℕ) → x < from → f x ≡ true → P x) where
+  -- the next one
+  pub nets_more : (w : ℕ) → First f from v w → Q w → (x : ℕ) → x < w + 1 → f x ≡ true → Q x
+  nets_more w first here x l t = go (ℕ_discrete x w) (dec_lt x from)
+    where
+      go : Dec (x ≡ w) → Dec (x < from) → Q x
+      go (yes e) d = subst⁻¹ Q e here
+      go (no n) (yes h) = on x (below x h t)
+      go (no n) (no h) = absurd (true≢false (sym t ∙ first.before x (omega arith) (omega arith)))
 
--- before the first one
-pub nets_first : (f : ℕ → Bool) (P : ℕ → Type 0) (r v : ℕ) → First f 0 v r → (x : ℕ) → x < r → f x ≡ true → P x
-nets_first f P r v first x l t = absurd (true≢false (sym t ∙ first.before x (omega arith) l))
+  -- none is left
+  pub nets_all : First f from v v → (x : ℕ) → x < v → f x ≡ true → Q x
+  nets_all first x l t = go (dec_lt x from)
+    where
+      go : Dec (x < from) → Q x
+      go (yes h) = on x (below x h t)
+      go (no h) = absurd (true≢false (sym t ∙ first.before x (omega arith) l))
 
 -- Whether the lead of net w + 1 has changed
 
@@ -79,28 +75,55 @@ pub not_moved : (older old : List ℕ) (w : ℕ) → get_or older w 0 ≡ get_or
 unfolding has_moved
 not_moved older old w e = ap not (eq-eqb (get_or older w 0) (get_or old w 0) e)
 
+-- the leads of a block have not
+pub block_unmoved : (older old : List ℕ) (w e : ℕ) → w ≤ e → e ≤ length old
+    → ((k : ℕ) → k < length (take (e - w) (drop w old)) → has_moved (take (e - w) (drop w older)) (take (e - w) (drop w old)) k ≡ false) → (p : ℕ) → w ≤ p → p < e
+    → has_moved older old p ≡ false
+unfolding has_moved
+block_unmoved older old w e i h same p l m =
+    let k : p - w < e - w = omega arith in
+    let at : w + (p - w) ≡ p = omega arith in
+    let inside : p - w < length (take (e - w) (drop w old)) = omega (arith, length-take-le (e - w) (drop w old), length-drop w old) in
+    let one : get_or (take (e - w) (drop w older)) (p - w) 0 ≡ get_or older p 0 = get_or-take (e - w) (drop w older) (p - w) 0 k ∙ get_or-drop w older (p - w) 0 ∙ ap (λ (j : ℕ). get_or older j 0) at in
+    let two : get_or (take (e - w) (drop w old)) (p - w) 0 ≡ get_or old p 0 = get_or-take (e - w) (drop w old) (p - w) 0 k ∙ get_or-drop w old (p - w) 0 ∙ ap (λ (j : ℕ). get_or old j 0) at in
+    rw (one, two) at (same (p - w) inside)
+
+-- one more pair of leads that are compared
+pub compared_more : (older old : List ℕ) (i : ℕ) (any : Bool) (a b : ℕ) → a ≡ get_or older i 0 → b ≡ get_or old i 0 → (any ≡ false → (k : ℕ) → k < i → has_moved older old k ≡ false)
+    → any || not (eqb a b) ≡ false → (k : ℕ) → k < i + 1 → has_moved older old k ≡ false
+unfolding has_moved
+compared_more older old i true a b e f before h k l = absurd (true≢false h)
+compared_more older old i false a b e f before h k l = go (ℕ_discrete k i)
+  where
+    here : has_moved older old i ≡ false
+    here = rw (e, f) at h
+
+    go : Dec (k ≡ i) → has_moved older old k ≡ false
+    go (yes d) = rw d here
+    go (no d) = before refl k (omega arith)
+
 -- How many places are in clauses that are seen
 
-module _ (row seen : List ℕ) (m : ℕ) where
-  below_unseen : get_or seen (start_of row m) 0 ≡ 0 → seen_below row seen (suc m) ≡ seen_below row seen m
+module _ (row : List ℕ) (seen : List Bool) (m : ℕ) where
+  below_unseen : get_or seen (start_of row m) false ≡ false → seen_below row seen (suc m) ≡ seen_below row seen m
   unfolding seen_below
-  below_unseen e = rw (eq-eqb (get_or seen (start_of row m) 0) 0 e)
+  below_unseen e = rw e refl
 
-  below_seen : get_or seen (start_of row m) 0 ≢ 0 → seen_below row seen (suc m) ≡ seen_below row seen m + 1
+  below_seen : get_or seen (start_of row m) false ≡ true → seen_below row seen (suc m) ≡ seen_below row seen m + 1
   unfolding seen_below
-  below_seen n = rw (ne_eqb (get_or seen (start_of row m) 0) 0 n)
+  below_seen e = rw e refl
 
-module _ (row seen : List ℕ) where
+module _ (row : List ℕ) (seen : List Bool) where
   seen_fits : (m : ℕ) → seen_below row seen m ≤ m
   unfolding seen_below
   seen_fits zero = omega arith
-  seen_fits (suc m) = go (ℕ_discrete (get_or seen (start_of row m) 0) 0) (seen_fits m)
+  seen_fits (suc m) = go (get_or seen (start_of row m) false) refl (seen_fits m)
     where
-      go : Dec (get_or seen (start_of row m) 0 ≡ 0) → seen_below row seen m ≤ m → seen_below row seen (suc m) ≤ suc m
-      go (yes e) h = omega (arith, below_unseen row seen m e)
-      go (no n) h = omega (arith, below_seen row seen m n)
+      go : (b : Bool) → get_or seen (start_of row m) false ≡ b → seen_below row seen m ≤ m → seen_below row seen (suc m) ≤ suc m
+      go false e h = omega (arith, below_unseen row seen m e)
+      go true e h = omega (arith, below_seen row seen m e)
 
-  seen_none : ((q : ℕ) → get_or seen q 0 ≡ 0) → (m : ℕ) → seen_below row seen m ≡ 0
+  seen_none : ((q : ℕ) → get_or seen q false ≡ false) → (m : ℕ) → seen_below row seen m ≡ 0
   unfolding seen_below
   seen_none h zero = refl
   seen_none h (suc m) = below_unseen row seen m (h (start_of row m)) ∙ seen_none h m
@@ -132,45 +155,45 @@ module _ (b e m : ℕ) (ordered : b ≤ e) where
   within_same (inr h) = omega arith
 
 -- one more clause is seen
-module _ (row seen : List ℕ) (b : ℕ) (s : Starts row b) (ended : b + length (clause_at row b) < length row) (room : b < length seen) (new : get_or seen b 0 ≡ 0) where
+module _ (row : List ℕ) (seen : List Bool) (b : ℕ) (s : Starts row b) (ended : b + length (clause_at row b) < length row) (room : b < length seen) (new : get_or seen b false ≡ false) where
   -- the place behind its ending
   abbrev behind : ℕ
   behind = b + length (clause_at row b) + 1
 
-  module _ (m : ℕ) (h : m < length row) (ih : seen_below row (set seen b 1) m ≡ seen_below row seen m + within b behind m) where
+  module _ (m : ℕ) (h : m < length row) (ih : seen_below row (set seen b true) m ≡ seen_below row seen m + within b behind m) where
     -- its places and the others
-    seen_here : start_of row m ≡ b → seen_below row (set seen b 1) (suc m) ≡ seen_below row seen (suc m) + within b behind (suc m)
+    seen_here : start_of row m ≡ b → seen_below row (set seen b true) (suc m) ≡ seen_below row seen (suc m) + within b behind (suc m)
     seen_here e =
-        let z : get_or (set seen b 1) (start_of row m) 0 ≡ 1 = ap (λ (k : ℕ). get_or (set seen b 1) k 0) e ∙ get_or-set_same seen b 1 0 room in
+        let z : get_or (set seen b true) (start_of row m) false ≡ true = ap (λ (k : ℕ). get_or (set seen b true) k false) e ∙ get_or-set_same seen b true false room in
         let low : b ≤ m = omega (arith, start_low row m) in
         let high : m ≤ b + length (clause_at row b) = subst (λ (k : ℕ). m ≤ k + length (clause_at row k)) e (start_reaches row m h) in
-        omega (arith, below_seen row (set seen b 1) m (λ k. omega arith), below_unseen row seen m (ap (λ (k : ℕ). get_or seen k 0) e ∙ new), within_more b behind m (omega arith) low (omega arith))
+        omega (arith, below_seen row (set seen b true) m z, below_unseen row seen m (ap (λ (k : ℕ). get_or seen k false) e ∙ new), within_more b behind m (omega arith) low (omega arith))
 
-    seen_away : start_of row m ≢ b → (m < b) ⊎ (behind ≤ m) → seen_below row (set seen b 1) (suc m) ≡ seen_below row seen (suc m) + within b behind (suc m)
-    seen_away n o = go (ℕ_discrete (get_or seen (start_of row m) 0) 0)
+    seen_away : start_of row m ≢ b → (m < b) ⊎ (behind ≤ m) → seen_below row (set seen b true) (suc m) ≡ seen_below row seen (suc m) + within b behind (suc m)
+    seen_away n o = go (get_or seen (start_of row m) false) refl
       where
-        same : get_or (set seen b 1) (start_of row m) 0 ≡ get_or seen (start_of row m) 0
-        same = get_or-set_other seen b (start_of row m) 1 0 n
+        same : get_or (set seen b true) (start_of row m) false ≡ get_or seen (start_of row m) false
+        same = get_or-set_other seen b (start_of row m) true false n
 
-        go : Dec (get_or seen (start_of row m) 0 ≡ 0) → seen_below row (set seen b 1) (suc m) ≡ seen_below row seen (suc m) + within b behind (suc m)
-        go (yes z) = omega (arith, ih, below_unseen row (set seen b 1) m (same ∙ z), below_unseen row seen m z, within_same b behind m (omega arith) o)
-        go (no z) = omega (arith, ih, below_seen row (set seen b 1) m (λ e. z (sym same ∙ e)), below_seen row seen m z, within_same b behind m (omega arith) o)
+        go : (k : Bool) → get_or seen (start_of row m) false ≡ k → seen_below row (set seen b true) (suc m) ≡ seen_below row seen (suc m) + within b behind (suc m)
+        go false z = omega (arith, ih, below_unseen row (set seen b true) m (same ∙ z), below_unseen row seen m z, within_same b behind m (omega arith) o)
+        go true z = omega (arith, ih, below_seen row (set seen b true) m (same ∙ z), below_seen row seen m z, within_same b behind m (omega arith) o)
 
-    seen_step : seen_below row (set seen b 1) (suc m) ≡ seen_below row seen (suc m) + within b behind (suc m)
+    seen_step : seen_below row (set seen b true) (suc m) ≡ seen_below row seen (suc m) + within b behind (suc m)
     seen_step = go (ℕ_discrete (start_of row m) b) (dec_lt m b) (dec_lt m behind)
       where
-        go : Dec (start_of row m ≡ b) → Dec (m < b) → Dec (m < behind) → seen_below row (set seen b 1) (suc m) ≡ seen_below row seen (suc m) + within b behind (suc m)
+        go : Dec (start_of row m ≡ b) → Dec (m < b) → Dec (m < behind) → seen_below row (set seen b true) (suc m) ≡ seen_below row seen (suc m) + within b behind (suc m)
         go (yes e) l i = seen_here e
         go (no n) (yes l) i = seen_away n (inl l)
         go (no n) (no l) (yes i) = absurd (n (start_only row b m s (omega arith) (omega arith) h))
         go (no n) (no l) (no i) = seen_away n (inr (omega arith))
 
-  seen_more : (m : ℕ) → m ≤ length row → seen_below row (set seen b 1) m ≡ seen_below row seen m + within b behind m
+  seen_more : (m : ℕ) → m ≤ length row → seen_below row (set seen b true) m ≡ seen_below row seen m + within b behind m
   unfolding seen_below within
   seen_more zero h = omega arith
   seen_more (suc m) h = seen_step m h (seen_more m (omega arith))
 
-  seen_all : seen_below row (set seen b 1) (length row) ≡ seen_below row seen (length row) + (length (clause_at row b) + 1)
+  seen_all : seen_below row (set seen b true) (length row) ≡ seen_below row seen (length row) + (length (clause_at row b) + 1)
   seen_all = omega (arith, seen_more (length row) (omega arith), within_none b behind (length row) (omega arith) (omega arith))
 
 -- The list
@@ -209,7 +232,7 @@ module _ (row list : List ℕ) (n b : ℕ) (room : n < length list) where
 
 -- The clauses that are seen so far
 
-pub working_none : (row seen list : List ℕ) → ((q : ℕ) → get_or seen q 0 ≡ 0) → Working row seen list 0 0
+pub working_none : (row : List ℕ) (seen : List Bool) (list : List ℕ) → ((q : ℕ) → get_or seen q false ≡ false) → Working row seen list 0 0
 unfolding span_of
 working_none row seen list h =
     record {
@@ -217,26 +240,26 @@ working_none row seen list h =
       span = refl;
       low = omega arith;
       starts = λ i l. absurd (omega arith);
-      on = λ b n. absurd (n (h b));
+      on = λ b n. absurd (true≢false (sym n ∙ h b));
     }
 
 -- no more than the row has
-module _ {row seen list : List ℕ} {n m : ℕ} (w : Working row seen list n m) where
+module _ {row : List ℕ} {seen : List Bool} {list : List ℕ} {n m : ℕ} (w : Working row seen list n m) where
   pub working_fits : m ≤ length row
   working_fits = omega (arith, w.count, seen_fits row seen (length row))
 
   -- one more clause
-  module _ (b : ℕ) (s : Starts row b) (ended : Ended row) (room : length row ≤ length seen) (space : length row ≤ length list) (new : get_or seen b 0 ≡ 0) where
-    all : seen_below row (set seen b 1) (length row) ≡ seen_below row seen (length row) + (length (clause_at row b) + 1)
+  module _ (b : ℕ) (s : Starts row b) (ended : Ended row) (room : length row ≤ length seen) (space : length row ≤ length list) (new : get_or seen b false ≡ false) where
+    all : seen_below row (set seen b true) (length row) ≡ seen_below row seen (length row) + (length (clause_at row b) + 1)
     all = seen_all row seen b s (ended b s) (omega (arith, s.inside)) new
 
     pub more_fits : m + (length (clause_at row b) + 1) ≤ length row
-    more_fits = omega (arith, w.count, all, seen_fits row (set seen b 1) (length row))
+    more_fits = omega (arith, w.count, all, seen_fits row (set seen b true) (length row))
 
     pub list_room : n < length list
     list_room = omega (arith, w.low, more_fits)
 
-    pub working_more : (k : ℕ) → k ≡ m + (length (clause_at row b) + 1) → Working row (set seen b 1) (set list n b) (n + 1) k
+    pub working_more : (k : ℕ) → k ≡ m + (length (clause_at row b) + 1) → Working row (set seen b true) (set list n b) (n + 1) k
     working_more k e =
         record {
           count = omega (arith, w.count, all);
@@ -246,11 +269,11 @@ module _ {row seen list : List ℕ} {n m : ℕ} (w : Working row seen list n m) 
           on = λ d h. go d h (ℕ_discrete d b);
         }
       where
-        go : (d : ℕ) → HasMark (set seen b 1) d → Dec (d ≡ b) → (i : ℕ) × (i < n + 1) × (get_or (set list n b) i 0 ≡ d)
+        go : (d : ℕ) → HasMark (set seen b true) d → Dec (d ≡ b) → (i : ℕ) × (i < n + 1) × (get_or (set list n b) i 0 ≡ d)
         go d h (yes i) = (n, omega arith, get_or-set_same list n b 0 list_room ∙ sym i)
-        go d h (no i) = on_before row list n b list_room d (w.on d (λ z. h (get_or-set_other seen b d 1 0 i ∙ z)))
+        go d h (no i) = on_before row list n b list_room d (w.on d (sym (get_or-set_other seen b d true false i) ∙ h))
 
-    pub more_seen : Keeps seen (set seen b 1) × HasMark (set seen b 1) b
+    pub more_seen : Keeps seen (set seen b true) × HasMark (set seen b true) b
     more_seen = mark_put seen b (omega (arith, s.inside))
 
   -- the list that is made
@@ -265,38 +288,37 @@ module _ {row seen list : List ℕ} {n m : ℕ} (w : Working row seen list n m) 
     working_on b h = let o = w.on b h in on_first list n working_room o.0 b o.1 o.2
 
     -- every clause is not seen, or on it
-    pub working_rest : (b : ℕ) → (get_or seen b 0 ≡ 0) ⊎ OnList (take n list) b
-    working_rest b = go (ℕ_discrete (get_or seen b 0) 0)
+    pub working_rest : (b : ℕ) → (get_or seen b false ≡ false) ⊎ OnList (take n list) b
+    working_rest b = go (get_or seen b false) refl
       where
-        go : Dec (get_or seen b 0 ≡ 0) → (get_or seen b 0 ≡ 0) ⊎ OnList (take n list) b
-        go (yes e) = inl e
-        go (no k) = inr (working_on b k)
+        go : (k : Bool) → get_or seen b false ≡ k → (get_or seen b false ≡ false) ⊎ OnList (take n list) b
+        go false e = inl e
+        go true e = inr (working_on b e)
 
 -- Changed leads
 
--- a walk along an occurrence list begins
-pub list_begin : (row : List ℕ) (w head : ℕ) (P : ℕ → Type 0) → ListOf row w head → Walk (net_at row) (length row) w P head
-list_begin row w head P o = record { low = o.low; at = o.at; seen = λ i l k d. absurd (omega (arith, o.none i l d)) }
-
 -- the clause of place q is seen if the change tells it anything
-abbrev pub Told : List ℕ → List ℕ → Bool → List ℕ → ℕ → Type 0
-Told starts reads fixed seen q = (fixed ≡ true) ⊎ (get_or reads q 0 ≡ 1) → HasMark seen (get_or starts q 0)
+abbrev pub Told : List ℕ → List Bool → Bool → List Bool → ℕ → Type 0
+Told starts reads fixed seen q = (fixed ≡ true) ⊎ (get_or reads q false ≡ true) → HasMark seen (get_or starts q 0)
+
+pub not_told : (starts : List ℕ) (reads : List Bool) (fixed : Bool) (seen : List Bool) (q : ℕ) → fixed ≡ false → get_or reads q false ≡ false → Told starts reads fixed seen q
+not_told starts reads fixed seen q e f (inl h) = absurd (true≢false (sym h ∙ e))
+not_told starts reads fixed seen q e f (inr h) = absurd (true≢false (sym h ∙ f))
 
 -- .. and it goes on
-pub list_next : (row starts reads occurs links : List ℕ) (fixed : Bool) (w k : ℕ) (seen seen' : List ℕ) → Chained (net_at row) (length row) occurs links → Keeps seen seen' → 0 < k
+pub list_next : (row starts : List ℕ) (reads : List Bool) (occurs links : List ℕ) (fixed : Bool) (w k : ℕ) (seen seen' : List Bool) → Chained (net_at row) (length row) occurs links → Keeps seen seen' → 0 < k
     → Told starts reads fixed seen' (k - 1) → Walk (net_at row) (length row) w (Told starts reads fixed seen) k
     → Walk (net_at row) (length row) w (Told starts reads fixed seen') (get_or links (k - 1) 0)
 list_next row starts reads occurs links fixed w k seen seen' c keeps h here walk =
     walk_next (λ i b. net_at row i ≡ b) (length row) w occurs links c (walk_map (λ i b. net_at row i ≡ b) (length row) w (λ i f t. keeps (get_or starts i 0) (f t)) walk) h here
 
 -- the clause of a place that it comes to
-module _ (codes marks starts reads occurs links : List ℕ) (indexed : Indexed codes marks starts reads occurs links) (w q : ℕ) (some : w ≢ 0) (inside : q < length codes) (at : net_at codes q ≡ w) where
-  pub clause-of : Starts codes (get_or starts q 0)
-  clause-of =
-      let l = literal_start codes q inside (λ z. some (sym at ∙ ap (λ (c : ℕ). c / 2) z)) in
-      subst⁻¹ (Starts codes) (place_start codes marks starts reads occurs links indexed (start_of codes q) q l) l.start
+pub clause-of : (codes starts : List ℕ) → ((b q : ℕ) → LiteralAt codes b q → get_or starts q 0 ≡ b) → (w q : ℕ) → w ≢ 0 → q < length codes → net_at codes q ≡ w → Starts codes (get_or starts q 0)
+clause-of codes starts at w q some inside net =
+    let l = literal_start codes q inside (λ z. some (sym net ∙ ap (λ (c : ℕ). c / 2) z)) in
+    subst⁻¹ (Starts codes) (at (start_of codes q) q l) l.start
 
-module _ (codes marks starts reads occurs links older old seen : List ℕ) (indexed : Indexed codes marks starts reads occurs links)
+module _ (codes marks starts : List ℕ) (reads : List Bool) (occurs links older old : List ℕ) (seen : List Bool) (indexed : Indexed codes marks starts reads occurs links)
     (nets : (q : ℕ) → net_at codes q ≤ length old) (size : length older ≡ length old) (told : SeesMovedBelow codes starts reads older old (length old) seen) where
   moved_variable : (q : ℕ) → Moved older old (get_or codes q 0) → net_at codes q ≢ 0
   moved_variable q h z = h (sym (lead_constant older (get_or codes q 0) z) ∙ lead_constant old (get_or codes q 0) z)
@@ -314,7 +336,7 @@ module _ (codes marks starts reads occurs links older old seen : List ℕ) (inde
       let e : get_or old (net c - 1) 0 / 2 ≡ 0 = sym (net_flip (is_inverse c) (get_or old (net c - 1) 0)) ∙ ap net (lead_inside old c n (nets q)) ∙ z in
       lt-ltb (get_or old (net c - 1) 0) 2 (omega arith)
 
-  told_seen : (b q : ℕ) → LiteralAt codes b q → Moved older old (get_or codes q 0) → (net (lead_at codes old q) ≡ 0) ⊎ (get_or reads q 0 ≡ 1) → HasMark seen b
+  told_seen : (b q : ℕ) → LiteralAt codes b q → Moved older old (get_or codes q 0) → (net (lead_at codes old q) ≡ 0) ⊎ (get_or reads q false ≡ true) → HasMark seen b
   told_seen b q l m h =
       let n = moved_variable q m in
       subst (HasMark seen) (place_start codes marks starts reads occurs links indexed b q l)
@@ -331,32 +353,46 @@ module _ (codes marks starts reads occurs links older old seen : List ℕ) (inde
       let l = read_literal b s.place s.at in
       told_seen b s.place l s.moved (inr (place_read codes marks starts reads occurs links indexed b s.place l s.at))
 
-  pub holds_changed : (list : List ℕ) → ((b : ℕ) → (get_or seen b 0 ≡ 0) ⊎ OnList list b) → HoldsChanged codes marks older old list
+  pub holds_changed : (list : List ℕ) → ((b : ℕ) → (get_or seen b false ≡ false) ⊎ OnList list b) → HoldsChanged codes marks older old list
   holds_changed list rest b s = go (rest b)
     where
-      go : (get_or seen b 0 ≡ 0) ⊎ OnList list b → OnList list b ⊎ (¬ Changed codes marks older old b)
-      go (inl z) = inr (λ c. changed_seen b c z)
+      go : (get_or seen b false ≡ false) ⊎ OnList list b → OnList list b ⊎ (¬ Changed codes marks older old b)
+      go (inl z) = inr (λ c. true≢false (sym (changed_seen b c) ∙ z))
       go (inr o) = inl o
 
--- Marks that are given back
+-- A worklist that is being made
 
-pub released : (seen₀ seen list : List ℕ) (i : ℕ) → i < length list
-    → ((q : ℕ) → (get_or seen₀ q 0 ≡ 0) ⊎ ((j : ℕ) × (j < i) × (get_or list j 0 ≡ q)) → get_or seen q 0 ≡ 0)
-    → (q : ℕ) → (get_or seen₀ q 0 ≡ 0) ⊎ ((j : ℕ) × (j < i + 1) × (get_or list j 0 ≡ q)) → get_or (set seen (get_or list i 0) 0) q 0 ≡ 0
-released seen₀ seen list i h before q o = go (ℕ_discrete q (get_or list i 0)) (dec_lt q (length seen)) o
-  where
-    after : List ℕ
-    after = set seen (get_or list i 0) 0
+pub listed_none : {row : List ℕ} {w : Worklist} → Listing row w → Listed row w w
+listed_none l = record { listing = l; keeps = λ x h. h; list_same = refl; seen_same = refl; list_size = refl; seen_size = refl }
 
-    go : Dec (q ≡ get_or list i 0) → Dec (q < length seen) → (get_or seen₀ q 0 ≡ 0) ⊎ ((j : ℕ) × (j < i + 1) × (get_or list j 0 ≡ q)) → get_or after q 0 ≡ 0
-    go (yes e) (yes l) k = ap (λ (p : ℕ). get_or after p 0) e ∙ get_or-set_same seen (get_or list i 0) 0 0 (omega arith)
-    go (yes e) (no l) k = get_or-eq_default after 0 (omega (arith, length-set seen (get_or list i 0) 0))
-    go (no n) l (inl z) = get_or-set_other seen (get_or list i 0) q 0 0 n ∙ before q (inl z)
-    go (no n) l (inr (j, k, e)) = get_or-set_other seen (get_or list i 0) q 0 0 n ∙ before q (inr (j, earlier (ℕ_discrete j i), e))
-      where
-        earlier : Dec (j ≡ i) → j < i
-        earlier (yes z) = absurd (n (sym e ∙ ap (λ (p : ℕ). get_or list p 0) z))
-        earlier (no z) = omega arith
+pub listed_then : {row : List ℕ} {w w' w'' : Worklist} → Listed row w w' → Listed row w' w'' → Listed row w w''
+listed_then a b =
+    record {
+      listing = b.listing;
+      keeps = λ x h. b.keeps x (a.keeps x h);
+      list_same = b.list_same ∙ a.list_same;
+      seen_same = b.seen_same ∙ a.seen_same;
+      list_size = b.list_size ∙ a.list_size;
+      seen_size = b.seen_size ∙ a.seen_size;
+    }
+
+-- it begins with no clause
+pub listing_none : (row : List ℕ) (w : Worklist) → w.work.clauses ≡ 0 → w.work.entries ≡ 0 → ((q : ℕ) → get_or w.seen.now q false ≡ false) → length row ≤ length w.list.now
+    → length row ≤ length w.seen.now → Listing row w
+listing_none row w n m blank list seen =
+    record {
+      working = subst₂ (λ (i j : ℕ). Working row w.seen.now w.list.now i j) (sym n) (sym m) (working_none row w.seen.now w.list.now blank);
+      list_room = list;
+      seen_room = seen;
+    }
+
+-- the row that the list was made in
+module _ {row : List ℕ} {w : Worklist} (l : Listing row w) (list : List ℕ) (same : list ≡ w.list.now) where
+  pub list_made : (n : ℕ) → length w.list.now ≡ n → (w.work.clauses ≤ n) × AreStarts row (take w.work.clauses list) × (w.work.entries ≡ span_of row (take w.work.clauses list))
+  list_made n size = rw same (omega (arith, working_room l.working l.list_room), working_starts l.working l.list_room, l.working.span)
+
+  pub made_rest : (b : ℕ) → (get_or w.seen.now b false ≡ false) ⊎ OnList (take w.work.clauses list) b
+  made_rest = rw same (working_rest l.working l.list_room)
 
 -- All clauses
 
@@ -400,9 +436,6 @@ module _ {row list : List ℕ} {n b : ℕ} (w : AllBelow row list n b) (room : l
 
   pub all_room : n ≤ length list
   all_room = omega (arith, w.low, w.high)
-
-  pub all_starts : AreStarts row (take n list)
-  all_starts = starts_all list n all_room row w.starts
 
   pub all_on : length row ≤ b → HoldsAll row (take n list)
   all_on h d s = let o = w.on d s (omega (arith, s.inside)) in on_first list n all_room o.0 d o.1 o.2

@@ -23,9 +23,9 @@ use Rattle.rules.specs.Answer.{lead_of}
 use Rattle.closure.specs.Making.{Drawn, Making, JoinedBy, Later}
 use Rattle.closure.specs.Joining.{State, join_state}
 use Rattle.closure.specs.Xors.{odd_nets, odd_sign, packed, Digits, Packable, XorAt, rest_at, key_at, sum_at}
-use Rattle.closure.specs.XorMatching.{XorsOf, Board, join_alone, Placed, Stepped}
+use Rattle.closure.specs.XorMatching.{XorsOf, join_alone, Placed, Stepped}
+use Rattle.closure.specs.declared.table.KeyTable.{KeyTable}
 use Rattle.closure.specs.declared.tally.Tally.{Tally}
-use Rattle.closure.specs.declared.xors.Pass.{Pass}
 use Rattle.rules.proofs.Groups.{own_length}
 use Rattle.closure.proofs.Making.{Carried, join_makes}
 use Rattle.closure.proofs.OddNets.{odd_bounded, packed_few}
@@ -65,16 +65,10 @@ alone_joins leads t key sum = go (dec_lt key 65536)
     go (no h) = subst (λ (s : State). s.tally.joins ≤ t.joins + 1) (alone_kept leads t key sum (omega arith)) (omega arith)
 
 -- the two steps of taking a literal, with the values that were computed
-pub stepped : (m : Board) (p : Pass) (m' : Board) (p' : Pass) (key key' sum sum' : ℕ) (leads : List ℕ) (t : Tally) → key ≡ key' → sum ≡ sum'
-    → record { row = leads; tally = t } ≡ join_alone m.leads p.tally key sum
-    → Placed key sum (record { leads = leads; keys = m.keys; sums = m.sums; next = m.next; heads = m.heads }) (record { tally = t; count = p.count }) m' p'
-    → Stepped key' sum' m p m' p'
-stepped m p m' p' key key' sum sum' leads t e d j h =
-    subst₂ (λ (k s : ℕ). Stepped k s m p m' p') e d
-    (subst
-    (λ (s : State).
-    Placed key sum (record { leads = s.row; keys = m.keys; sums = m.sums; next = m.next; heads = m.heads }) (record { tally = s.tally; count = p.count }) m' p')
-    j h)
+pub stepped : {S B : ℕ} {xors xors' : KeyTable S B} (s : State) {s' mid : State} {key key' sum sum' : ℕ} → key ≡ key' → sum ≡ sum' → mid ≡ join_alone s.row s.tally key sum
+    → Placed key sum xors mid xors' s' → Stepped key' sum' xors s xors' s'
+stepped {xors = xors} {xors'} s {s'} {key = key} {sum = sum} e d j h =
+    subst₂ (λ (k v : ℕ). Stepped k v xors s xors' s') e d (subst (λ (m : State). Placed key sum xors m xors' s') j h)
 
 -- a sum has been joined to the only net that is left
 pub record AloneMade (cs : List (List ℕ)) (old leads : List ℕ) (t : Tally) (key sum : ℕ) (s : State) : Type 0 where

@@ -1,12 +1,14 @@
 -- How rule 8 goes over the entries of one key: for each of their ITEs the lead of its e has a holder, the first side of an ITE that came before. Only
 -- inner contracts cite these.
 -- Assumes nothing.
-use Rattle.std.specs.Prelude.{◌≡◌, List, ℕ, suc, ◌+◌, ◌-◌, ◌*◌, ◌≤◌, ◌<◌, length, get_or}
+use Rattle.std.specs.Prelude.{◌≡◌, List, ℕ, suc, ◌+◌, ◌-◌, ◌*◌, ◌≤◌, ◌<◌, length, get_or, Some}
 use Rattle.rules.specs.Answer.{lead_of}
 use Rattle.closure.specs.Making.{Kernel, JoinedBy}
 use Rattle.closure.specs.Marked.{Ready, Went}
-use Rattle.closure.specs.Table.{LastWith}
+use Rattle.closure.specs.Table.{LastSlot}
 use Rattle.closure.specs.IteSides.{select_at, output_at, then_at, Pair, Hubs}
+use Rattle.closure.specs.declared.table.KeyTable.{KeyTable}
+use Rattle.closure.specs.declared.hubs.SideHubs.{SideHubs}
 use Rattle.closure.specs.declared.tally.Tally.{Tally}
 
 -- the selects of two sides have one old lead, and so have their literals t
@@ -38,18 +40,17 @@ pub record Matching (row marks old : List ℕ) (k : ℕ) (holders new : List ℕ
   pub keeps : (y f : ℕ) → get_or holders y 0 ≡ suc f → Alike row old k f → get_or holders' y 0 ≡ suc f
 
 -- what the functions that match ask for: a round is being made, the holders are right, and all sides are chained
-pub record Matchable (row marks hubs links old holders new : List ℕ) (t : Tally) : Type 0 where
+pub record Matchable {NUMBERS BUCKETS : ℕ} (row marks : List ℕ) (hubs : SideHubs NUMBERS BUCKETS) (old holders new : List ℕ) (t : Tally) : Type 0 where
   pub ready : Ready row marks old new t
   pub holds : Holders row marks old holders
-  pub hubs_are : Hubs row marks hubs links
+  pub hubs_are : Hubs row marks hubs
 
--- entry `last`, counted from 1, is the last one with its key
-pub record IsLast (sides likes : List ℕ) (last : ℕ) : Type 0 where
-  pub some : 0 < last
-  pub is : LastWith likes (get_or likes (last - 1) 0) (length sides) last
+-- entry k is the last one with its key
+abbrev pub IsLast : {ENTRIES BUCKETS : ℕ} → KeyTable ENTRIES BUCKETS → ℕ → Type 0
+IsLast table k = LastSlot table.keys (get_or table.keys k 0) table.count (Some k)
 
 -- the outputs of the sides in the entries with this key have one new lead
-abbrev pub OneOutput : List ℕ → List ℕ → List ℕ → List ℕ → ℕ → Type 0
-OneOutput row new sides likes like =
-    (i k : ℕ) → i < length sides → k < length sides → get_or likes i 0 ≡ like → get_or likes k 0 ≡ like
-    → lead_of new (output_at row (get_or sides i 0)) ≡ lead_of new (output_at row (get_or sides k 0))
+abbrev pub OneOutput : {ENTRIES BUCKETS : ℕ} → List ℕ → List ℕ → KeyTable ENTRIES BUCKETS → ℕ → Type 0
+OneOutput row new table like =
+    (i k : ℕ) → i < table.count → k < table.count → get_or table.keys i 0 ≡ like → get_or table.keys k 0 ≡ like
+    → lead_of new (output_at row (get_or table.values i 0)) ≡ lead_of new (output_at row (get_or table.values k 0))

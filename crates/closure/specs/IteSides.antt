@@ -7,6 +7,7 @@ use Rattle.clauses.specs.Chains.{ChainedIn}
 use Rattle.gates.specs.Found.{is_select_next, is_select_after}
 use Rattle.clauses.specs.Row.{clause_at, LiteralAt, around}
 use Rattle.clauses.specs.Row.{start_of}
+use Rattle.closure.specs.declared.hubs.SideHubs.{SideHubs}
 
 -- place p holds a literal of a clause of three, which is ended
 pub record InThree (row : List ℕ) (p : ℕ) : Type 0 where
@@ -67,7 +68,7 @@ pub record InHub (row marks : List ℕ) (m s b : ℕ) : Type 0 where
   pub bucket : pair_key (select_at row s) (output_at row s) % m ≡ b
 
 -- the sides of all places are chained
-pub record Hubs (row marks hubs links : List ℕ) : Type 0 where
-  pub some : 0 < length hubs
-  pub room : 2 * length row ≤ length links
-  pub chains : ChainedIn (InHub row marks (length hubs)) (2 * length row) hubs links
+pub record Hubs {NUMBERS BUCKETS : ℕ} (row marks : List ℕ) (hubs : SideHubs NUMBERS BUCKETS) : Type 0 where
+  pub some : 0 < BUCKETS
+  pub room : 2 * length row ≤ NUMBERS
+  pub chains : ChainedIn (InHub row marks BUCKETS) (2 * length row) hubs.heads hubs.links

@@ -7,44 +7,22 @@ use Rattle.closure.specs.Worklist.{HoldsChanged, HoldsAll}
 use Rattle.closure.specs.KeptAnds.{AndTable, AndsKnown}
 use Rattle.closure.specs.KeptXors.{XorTable, XorsKnown}
 use Rattle.closure.specs.SideTable.{SideSlot, SideTable, SidesKnown}
+use Rattle.closure.specs.declared.table.KeyTable.{KeyTable}
+use Rattle.closure.specs.declared.side_table.KeptSides.{KeptSides}
 use Rattle.closure.specs.declared.tally.Tally.{Tally}
 
--- the rows of the tables, and how many of their slots are taken
-pub record AndRows : Type 0 where
-  pub count : ℕ
-  pub keys : List ℕ
-  pub slots : List ℕ
-  pub next : List ℕ
-  pub heads : List ℕ
-
-pub record XorRows : Type 0 where
-  pub count : ℕ
-  pub keys : List ℕ
-  pub sums : List ℕ
-  pub next : List ℕ
-  pub heads : List ℕ
-
-pub record SideRows : Type 0 where
-  pub count : ℕ
-  pub sides : List ℕ
-  pub likes : List ℕ
-  pub mate_next : List ℕ
-  pub mate_heads : List ℕ
-  pub like_next : List ℕ
-  pub like_heads : List ℕ
-
 -- the tables hold gates of the row, read through the old leads or earlier ones; every gate is known in them but those of the clauses on the list from entry i on
-pub record Tables (row marks old new : List ℕ) (t : Tally) (list : List ℕ) (i : ℕ) (a : AndRows) (x : XorRows) (s : SideRows) : Type 0 where
-  pub ands : AndTable row marks a.count a.keys a.slots a.next a.heads
-  pub xors : XorTable row marks old x.count x.keys x.sums x.next x.heads
-  pub sides : SideTable row marks old s.count s.sides s.likes s.mate_next s.mate_heads s.like_next s.like_heads
-  pub ands_known : AndsKnown row marks old new t list i a.count a.keys a.slots
-  pub xors_known : XorsKnown row marks old new t list i x.count x.keys x.sums
-  pub sides_known : SidesKnown row marks old new t list i s.count s.sides s.likes
+pub record Tables {SLOTS ENTRIES BUCKETS : ℕ} (row marks old new : List ℕ) (t : Tally) (list : List ℕ) (i : ℕ) (ands xors : KeyTable SLOTS BUCKETS) (sides : KeptSides ENTRIES BUCKETS) : Type 0 where
+  pub and_table : AndTable row marks ands
+  pub xor_table : XorTable row marks old xors
+  pub side_table : SideTable row marks old sides
+  pub ands_known : AndsKnown row marks old new t list i ands
+  pub xors_known : XorsKnown row marks old new t list i xors
+  pub sides_known : SidesKnown row marks old new t list i sides.table
 
 -- before a round: it goes over all clauses and the tables are empty, or over those that changed, the round before has joined what all of them draw, and
 -- the entries of sides are of that round or an earlier one
-pub data Basis (row marks older old list : List ℕ) (s : SideRows) : Type 0 where
-  anew : HoldsAll row list → s.count ≤ 0 → Basis row marks older old list s
+pub data Basis {ENTRIES BUCKETS : ℕ} (row marks older old list : List ℕ) (table : KeyTable ENTRIES BUCKETS) : Type 0 where
+  anew : HoldsAll row list → table.count ≤ 0 → Basis row marks older old list table
   kept : HoldsChanged row marks older old list → RowJoined row marks older old (fresh 0)
-      → ((i : ℕ) → i < s.count → SideSlot row marks older (get_or s.likes i 0) (get_or s.sides i 0)) → Basis row marks older old list s
+      → ((i : ℕ) → i < table.count → SideSlot row marks older (get_or table.keys i 0) (get_or table.values i 0)) → Basis row marks older old list table

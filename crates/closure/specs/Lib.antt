@@ -1,10 +1,12 @@
 pub mod Making
 pub mod Passing
 pub mod Holding
+pub mod Inputs
 pub mod Matching
 pub mod Joining
 pub mod Xors
 pub mod Table
+pub mod Entered
 pub mod XorMatching
 pub mod Marked
 pub mod RowJoined
@@ -15,6 +17,7 @@ pub mod KeptXors
 pub mod IteSides
 pub mod SideTable
 pub mod Occurrences
+pub mod Listing
 pub mod IteGroups
 pub mod KeptTables
 pub mod Closing

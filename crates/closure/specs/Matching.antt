@@ -1,17 +1,24 @@
 -- ANDs compared by the sets of their inputs' leads. Only inner contracts cite these.
 -- Assumes nothing.
-use Rattle.std.specs.Prelude.{◌≡◌, ◌≢◌, true, cond, List, ℕ, suc, ◌+◌, ◌*◌, ◌%◌, ◌<◌, eqb, length, get_or}
+use Rattle.std.specs.Prelude.{◌≡◌, ◌≢◌, Bool, true, false, cond, List, ℕ, suc, ◌+◌, ◌*◌, ◌%◌, ◌<◌, length, get_or}
 use Rattle.clauses.specs.Limit.{max_nets}
 use Rattle.gates.specs.Found.{is_and}
 use Rattle.clauses.specs.Row.{clause_at, LiteralAt}
 use Rattle.clauses.specs.Row.{start_of}
 use Rattle.closure.specs.Passing.{lead_at}
-use Rattle.closure.specs.Holding.{Among, Holds}
+use Rattle.closure.specs.Holding.{Among}
 
 -- place p holds a literal, and its clause is ended
 pub record Placed (row : List ℕ) (p : ℕ) : Type 0 where
   pub at : LiteralAt row (start_of row p) p
   pub ended : start_of row p + length (clause_at row (start_of row p)) < length row
+
+-- place p holds a literal of the clause from b up to its ending at e
+pub record InClause (row : List ℕ) (p b e : ℕ) : Type 0 where
+  pub start : b ≡ start_of row p
+  pub end : e ≡ start_of row p + length (clause_at row (start_of row p))
+  pub high : p < e
+  pub inside : e < length row
 
 -- an AND has its output at place p
 pub record AndAt (row marks : List ℕ) (p : ℕ) : Type 0 where
@@ -61,8 +68,8 @@ unfoldable pub spread_of : ℕ → ℕ
 spread_of s = s % 4294967291 * (s % 4294967279) % 4503599627370449
 
 -- what the lead x adds to a signature, if the leads added before are held
-unfoldable pub share_of : List ℕ → ℕ → ℕ
-share_of held x = cond (eqb (get_or held x 0) 1) 0 (hash_of x)
+unfoldable pub share_of : List Bool → ℕ → ℕ
+share_of held x = cond (get_or held x false) 0 (hash_of x)
 
 -- s is the sum of the hashes of the leads at the places from b up to e, other than p, but for F
 abbrev pub Summed : List ℕ → List ℕ → ℕ → ℕ → ℕ → ℕ → Type 0
@@ -73,9 +80,5 @@ abbrev pub Common : List ℕ → List ℕ → ℕ → ℕ → ℕ → Type 0
 Common row old p q a = a ≢ p → lead_at row old a ≢ 0 → HasLead row old q (lead_at row old a)
 
 -- .. is held
-abbrev pub Held : List ℕ → List ℕ → List ℕ → ℕ → ℕ → Type 0
-Held row old held p a = a ≢ p → lead_at row old a ≢ 0 → get_or held (lead_at row old a) 0 ≡ 1
-
--- the leads of the other literals of the clause of place p are held
-abbrev pub HoldsAt : List ℕ → List ℕ → ℕ → List ℕ → Type 0
-HoldsAt row old p held = Holds row old (start_of row p) (start_of row p + length (clause_at row (start_of row p))) p held
+abbrev pub Held : List ℕ → List ℕ → List Bool → ℕ → ℕ → Type 0
+Held row old held p a = a ≢ p → lead_at row old a ≢ 0 → get_or held (lead_at row old a) false ≡ true

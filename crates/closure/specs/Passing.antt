@@ -1,7 +1,7 @@
 -- Passes over the clauses and the ANDs of a row: what their searches find, and what they join for one clause or AND. Only inner contracts
 -- cite these.
 -- Assumes nothing.
-use Rattle.std.specs.Prelude.{◌≡◌, ◌≢◌, ◌⊎◌, Bool, true, false, not, ◌&&◌, List, ℕ, ◌+◌, ◌≤◌, ◌<◌, eqb, length, get_or}
+use Rattle.std.specs.Prelude.{◌≡◌, ◌≢◌, ◌⊎◌, Bool, true, false, not, ◌&&◌, Option, MatchOption, List, ℕ, ◌+◌, ◌≤◌, ◌<◌, eqb, length, get_or}
 use Rattle.clauses.specs.Code.{negate}
 use Rattle.clauses.specs.Clause.{Mem}
 use Rattle.gates.specs.Gate.{Input}
@@ -19,20 +19,16 @@ lead_at row old q = lead_of old (get_or row q 0)
 unfoldable pub is_other : List ℕ → List ℕ → ℕ → ℕ → ℕ → Bool
 is_other row old skip y q = not (eqb q skip) && (not (eqb (lead_at row old q) 0) && not (eqb (lead_at row old q) y))
 
--- place q is not `skip`, and its lead is x
-unfoldable pub is_with : List ℕ → List ℕ → ℕ → ℕ → ℕ → Bool
-is_with row old skip x q = not (eqb q skip) && eqb (lead_at row old q) x
-
--- place q ends a clause
-unfoldable pub is_ending : List ℕ → ℕ → Bool
-is_ending row q = eqb (get_or row q 0) 0
-
 -- r is the first place from `from` on that passes the test; `to` where none below it does
 pub record First (f : ℕ → Bool) (from to r : ℕ) : Type 0 where
   pub low : from ≤ r
   pub high : r ≤ to
   pub before : (q : ℕ) → from ≤ q → q < r → f q ≡ false
   pub here : r < to → f r ≡ true
+
+-- the first place from `from` on, below `to`, that passes the test, if there is one
+abbrev pub FirstOf : (ℕ → Bool) → ℕ → ℕ → Option ℕ → Type 0
+FirstOf f from to r = MatchOption r (First f from to to) (λ q. (q < to) × First f from to q)
 
 -- rule 1 has joined what it draws from the clause that starts at b
 pub record UnitJoined (row old new : List ℕ) (t : Tally) (b : ℕ) : Type 0 where

@@ -1,5 +1,7 @@
 -- Rounds, one after the other: what holds before each of them, and how one leads to the next. Only inner contracts cite these.
 -- Assumes nothing.
+use Rattle.std.specs.declared.ops.ControlFlow.{ControlFlow}
+use Rattle.std.specs.declared.ops.ControlFlow.TheVariants.{Continue, Break}
 use Rattle.std.specs.Prelude.{◌≡◌, ◌≢◌, Bool, true, false, not, ◌&&◌, List, ℕ, ◌+◌, ◌*◌, ◌≤◌, ◌<◌, eqb, length, replicate}
 use Rattle.clauses.specs.Limit.{max_nets, max_entries}
 use Rattle.clauses.specs.Clause.{clauses_in}
@@ -11,7 +13,7 @@ use Rattle.closure.specs.Making.{Making, fresh}
 use Rattle.closure.specs.RowJoined.{RowJoined}
 use Rattle.closure.specs.declared.tally.Tally.{Tally}
 use Rattle.closure.specs.declared.run.Progress.{Progress}
-use Rattle.closure.specs.declared.run.Slots.{Slots}
+use Rattle.closure.specs.declared.run.Ended.{Ended}
 
 -- a round from the old leads can be made, after so many others
 pub record Starting (row marks older old new : List ℕ) (rounds groups : ℕ) : Type 0 where
@@ -26,24 +28,24 @@ pub record Starting (row marks older old new : List ℕ) (rounds groups : ℕ) :
   -- the round before, if there was one, has joined all that the older leads draw
   pub before : rounds ≢ 0 → RowJoined row marks older old (fresh 0)
 
--- the tables have room for the gates of clauses with so many entries
-pub record Room (slots : Slots) (entries : ℕ) : Type 0 where
-  pub ands : slots.ands + entries ≤ max_entries
-  pub xors : slots.xors + entries ≤ max_entries
-  pub sides : 2 * slots.sides + 3 * entries ≤ 3 * max_entries
+-- the tables, with so many slots and entries taken, have room for the gates of clauses with so many entries
+pub record Room (ands xors sides entries : ℕ) : Type 0 where
+  pub ands_room : ands + entries ≤ max_entries
+  pub xors_room : xors + entries ≤ max_entries
+  pub sides_room : 2 * sides + 3 * entries ≤ 3 * max_entries
 
 -- the round has joined nothing
 unfoldable pub is_still : Tally → Bool
 is_still t = not t.clash && eqb t.joins 0
 
 -- what follows a round: an end, or the next round from its leads
-pub data Followed (limit : ℕ) (s : Progress) (t : Tally) (leads next leads' older' : List ℕ) : Progress → Type 0 where
+pub data Followed (limit : ℕ) (s : Progress) (t : Tally) (leads next leads' older' : List ℕ) : ControlFlow Ended Progress → Type 0 where
   settled : is_still t ≡ true → leads' ≡ leads
-      → Followed limit s t leads next leads' older' (record { verdict = Settled; rounds = s.rounds; groups = s.groups; more = false })
+      → Followed limit s t leads next leads' older' (Break (record { verdict = Settled; rounds = s.rounds; groups = s.groups }))
   -- the round that shows a list to be settled may lie past the limit
   stopped : is_still t ≡ false → s.rounds ≡ limit → leads' ≡ leads
-      → Followed limit s t leads next leads' older' (record { verdict = Unfinished; rounds = s.rounds; groups = s.groups; more = false })
+      → Followed limit s t leads next leads' older' (Break (record { verdict = Unfinished; rounds = s.rounds; groups = s.groups }))
   clashed : is_still t ≡ false → s.rounds < limit → t.clash ≡ true → leads' ≡ replicate (length leads) no_lead
-      → Followed limit s t leads next leads' older' (record { verdict = Contradiction; rounds = s.rounds + 1; groups = 0; more = false })
+      → Followed limit s t leads next leads' older' (Break (record { verdict = Contradiction; rounds = s.rounds + 1; groups = 0 }))
   made : is_still t ≡ false → s.rounds < limit → t.clash ≡ false → leads' ≡ next → older' ≡ leads
-      → Followed limit s t leads next leads' older' (record { verdict = Unfinished; rounds = s.rounds + 1; groups = t.groups; more = true })
+      → Followed limit s t leads next leads' older' (Continue (record { rounds = s.rounds + 1; groups = t.groups }))

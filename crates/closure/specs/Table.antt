@@ -1,6 +1,6 @@
 -- A table of keys: slots in the order of entry, chained by the buckets of their keys. Only inner contracts cite these.
 -- Assumes nothing.
-use Rattle.std.specs.Prelude.{◌≡◌, List, ℕ, ◌≤◌, ◌<◌, ◌%◌, length, get_or}
+use Rattle.std.specs.Prelude.{◌≡◌, ◌≢◌, List, ℕ, ◌≤◌, ◌<◌, ◌%◌, length, get_or, Option, Some, None}
 use Rattle.clauses.specs.Chains.{Last, Chained}
 
 -- the bucket, of m, of the key in slot k
@@ -14,9 +14,10 @@ pub record Table (count : ℕ) (keys next heads : List ℕ) : Type 0 where
   pub room : length keys ≤ length next
   pub chains : Chained (bucket_of (length heads) keys) count heads next
 
--- the last slot below m with the key, counted from 1; 0 where there is none
-abbrev pub LastWith : List ℕ → ℕ → ℕ → ℕ → Type 0
-LastWith keys = Last (λ i key. get_or keys i 0 ≡ key)
+-- the last slot below m with the key, if there is one
+abbrev pub LastSlot : List ℕ → ℕ → ℕ → Option ℕ → Type 0
+LastSlot keys key m None = (i : ℕ) → i < m → get_or keys i 0 ≢ key
+LastSlot keys key m (Some k) = (k < m) × (get_or keys k 0 ≡ key) × ((i : ℕ) → i < m → get_or keys i 0 ≡ key → i ≤ k)
 
 -- a walk along the chain of the key's bucket goes on at slot `from`, counted from 1: the last one of the bucket below `bound`
 pub record ChainFrom (keys next : List ℕ) (key bound from : ℕ) : Type 0 where
@@ -25,9 +26,3 @@ pub record ChainFrom (keys next : List ℕ) (key bound from : ℕ) : Type 0 wher
   pub table : Table count keys next heads
   pub low : bound ≤ count
   pub last : Last (λ i b. bucket_of (length heads) keys i ≡ b) (key % length heads) bound from
-
--- the slots that were taken are what they were
-pub record Extends (count : ℕ) (keys slots : List ℕ) (count' : ℕ) (keys' slots' : List ℕ) : Type 0 where
-  pub more : count ≤ count'
-  pub key : (i : ℕ) → i < count → get_or keys' i 0 ≡ get_or keys i 0
-  pub slot : (i : ℕ) → i < count → get_or slots' i 0 ≡ get_or slots i 0

@@ -1,8 +1,7 @@
 -- The worklist of a round: the clauses that it goes over, by where they start, what stays as it was in the others, and how the list is made. Only inner
 -- contracts cite these.
 -- Assumes nothing.
-use Rattle.std.specs.Prelude.{◌≡◌, ◌≢◌, ◌⊎◌, Bool, true, not, cond, List, [], ◌∷◌, ℕ, zero, suc, ◌+◌, ◌≤◌, ◌<◌, eqb, ltb, length, get_or, take}
-use Rattle.clauses.specs.Chains.{Last}
+use Rattle.std.specs.Prelude.{◌≡◌, ◌≢◌, ◌⊎◌, Bool, true, false, not, cond, List, [], ◌∷◌, ℕ, zero, suc, ◌+◌, ◌≤◌, ◌<◌, eqb, ltb, length, get_or, take}
 use Rattle.clauses.specs.Row.{clause_at, Starts}
 use Rattle.clauses.specs.Row.{start_of}
 use Rattle.closure.specs.Making.{Kernel, fresh}
@@ -55,11 +54,11 @@ LeavesDrawn row marks older old list = (b : ℕ) → Starts row b → OnList lis
 -- How the list is made
 
 -- w has a mark
-abbrev pub HasMark : List ℕ → ℕ → Type 0
-HasMark marked w = get_or marked w 0 ≢ 0
+abbrev pub HasMark : List Bool → ℕ → Type 0
+HasMark marked w = get_or marked w false ≡ true
 
 -- the marks are still there
-abbrev pub Keeps : List ℕ → List ℕ → Type 0
+abbrev pub Keeps : List Bool → List Bool → Type 0
 Keeps marked marked' = (w : ℕ) → HasMark marked w → HasMark marked' w
 
 -- the lead of net w + 1 is another one than before
@@ -67,28 +66,24 @@ unfoldable pub has_moved : List ℕ → List ℕ → ℕ → Bool
 has_moved older old w = not (eqb (get_or older w 0) (get_or old w 0))
 
 -- how many of the first m places of the row are in clauses that are seen, or their endings
-unfoldable pub seen_below : List ℕ → List ℕ → ℕ → ℕ
+unfoldable pub seen_below : List ℕ → List Bool → ℕ → ℕ
 seen_below row seen zero = 0
-seen_below row seen (suc m) = cond (eqb (get_or seen (start_of row m) 0) 0) (seen_below row seen m) (seen_below row seen m + 1)
+seen_below row seen (suc m) = cond (get_or seen (start_of row m) false) (seen_below row seen m + 1) (seen_below row seen m)
 
 -- the first n entries of the list are where clauses start, those that are seen among them, and these take m entries of the row, as many as those that are seen
-pub record Working (row seen list : List ℕ) (n m : ℕ) : Type 0 where
+pub record Working (row : List ℕ) (seen : List Bool) (list : List ℕ) (n m : ℕ) : Type 0 where
   pub count : m ≡ seen_below row seen (length row)
   pub span : m ≡ span_of row (take n list)
   pub low : n ≤ m
   pub starts : (i : ℕ) → i < n → Starts row (get_or list i 0)
   pub on : (b : ℕ) → HasMark seen b → (i : ℕ) × (i < n) × (get_or list i 0 ≡ b)
 
--- the occurrence list of net w begins at place `head`, counted from 1
-abbrev pub ListOf : List ℕ → ℕ → ℕ → Type 0
-ListOf row w head = Last (λ q n. net_at row q ≡ n) w (length row) head
-
 -- the clauses of the places of net w are seen to which a change of its lead tells anything: it is a constant, or read
-abbrev pub SeesTold : List ℕ → List ℕ → List ℕ → ℕ → Bool → List ℕ → Type 0
+abbrev pub SeesTold : List ℕ → List ℕ → List Bool → ℕ → Bool → List Bool → Type 0
 SeesTold row starts reads w fixed seen =
-    (q : ℕ) → q < length row → net_at row q ≡ w → (fixed ≡ true) ⊎ (get_or reads q 0 ≡ 1) → HasMark seen (get_or starts q 0)
+    (q : ℕ) → q < length row → net_at row q ≡ w → (fixed ≡ true) ⊎ (get_or reads q false ≡ true) → HasMark seen (get_or starts q 0)
 
 -- .. of the places of the nets up to w whose leads have changed
-abbrev pub SeesMovedBelow : List ℕ → List ℕ → List ℕ → List ℕ → List ℕ → ℕ → List ℕ → Type 0
+abbrev pub SeesMovedBelow : List ℕ → List ℕ → List Bool → List ℕ → List ℕ → ℕ → List Bool → Type 0
 SeesMovedBelow row starts reads older old w seen =
     (x : ℕ) → x < w → has_moved older old x ≡ true → SeesTold row starts reads (x + 1) (ltb (get_or old x 0) 2) seen

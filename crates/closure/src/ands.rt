@@ -1,49 +1,37 @@
 // Rule 3: ANDs whose output is a constant or one of the inputs.
 
-ghost use Rattle.std.specs.Prelude.{◌≡◌, true, List, ℕ, ◌+◌, ◌<◌, length, get_or};
+ghost use Rattle.std.specs.Prelude.{◌≡◌, true, List, ℕ, get_or};
 ghost use Rattle.gates.specs.Found.{is_and};
-ghost use Rattle.clauses.specs.Row.{clause_at, Starts, LiteralAt};
+ghost use Rattle.clauses.specs.Row.{Starts, LiteralAt};
 ghost use Rattle.closure.specs.Passing.{AndJoined};
 ghost use Rattle.closure.specs.Holding.{Blank};
+ghost use Rattle.closure.specs.Inputs.{AndTaken};
 ghost use Rattle.closure.specs.Marked.{Ready, Went};
 ghost use Rattle.closure.specs.Worklist.{OnList, AreStarts};
 
-use crate::clashes::has_clash;
+use crate::inputs::Inputs;
 use crate::lead::lead_of;
-use crate::literals::first_other;
 use crate::tally::Tally;
 use clauses::place::clause_end;
-use clauses::sign::flipped;
+use clauses::sign::inverse;
 
-// Rule 3 for the AND of the clause from b up to its ending at e and its literal at p, whatever the other marks are.
-fn by_and(
-    codes: &[u32],
-    b: usize,
-    e: usize,
-    p: usize,
-    old: &[u32],
-    held: &mut [u8],
-    new: &mut [u32],
-    t: Tally,
-) -> Tally
-    requires by_index { (marks : List ℕ) × Ready codes.now marks old.now new.old t }
-    requires literal_at { LiteralAt codes.now b p × (e ≡ b + length (clause_at codes.now b)) }
+// Rule 3 for the AND with these inputs, whatever the other marks are.
+fn by_and(inputs: &Inputs, held: &mut [bool], new: &mut [u32], t: Tally) -> Tally
+    requires by_index { (marks : List ℕ) × Ready inputs.now.codes.now marks inputs.now.old.now new.old t }
     requires blank_2 { Blank held.old }
-    ensures and { (marks : List ℕ) → Ready codes.now marks old.now new.old t → is_and (get_or marks p 0) ≡ true → Went codes.now marks old.now new.old t new.new result × AndJoined codes.now old.now new.new result b p }
+    ensures and { (marks : List ℕ) → Ready inputs.now.codes.now marks inputs.now.old.now new.old t → is_and (get_or marks inputs.now.output 0) ≡ true
+        → AndTaken inputs.now marks new.old t new.new result }
     ensures blank { Blank held.new }
 {
-    let l = codes[p];
-    let q = first_other(codes, old, b, e, p, 0);
-    if q == e {
+    let l = inputs.codes[inputs.output];
+    let Some(q) = inputs.first_other(0) else {
         return t.join(new, l, 1);
+    };
+    let x = inputs.codes[q];
+    if inputs.first_other(lead_of(inputs.old, x)).is_none() {
+        return t.join(new, l, inverse(x));
     }
-    let x = codes[q];
-    let y = lead_of(old, x);
-    let s = first_other(codes, old, b, e, p, y);
-    if s == e {
-        return t.join(new, l, flipped(true, x));
-    }
-    if has_clash(codes, old, b, e, p, held) {
+    if inputs.has_clash(held) {
         return t.join(new, l, 0);
     }
     t
@@ -55,7 +43,7 @@ fn by_ands_at(
     marks: &[u8],
     b: usize,
     old: &[u32],
-    held: &mut [u8],
+    held: &mut [bool],
     new: &mut [u32],
     tally: Tally,
 ) -> Tally
@@ -68,12 +56,17 @@ fn by_ands_at(
 {
     let e = clause_end(codes, b);
     let mut t = tally;
-    let mut p = b;
-    while p < e {
+    for p in b..e {
         if marks[p] % 2 == 1 {
-            t = by_and(codes, b, e, p, old, held, new, t);
+            let inputs = Inputs {
+                codes,
+                old,
+                start: b,
+                end: e,
+                output: p,
+            };
+            t = by_and(&inputs, held, new, t);
         }
-        p += 1;
     }
     t
 }
@@ -84,7 +77,7 @@ pub fn by_ands(
     marks: &[u8],
     list: &[u32],
     old: &[u32],
-    held: &mut [u8],
+    held: &mut [bool],
     new: &mut [u32],
     tally: Tally,
 ) -> Tally
@@ -96,10 +89,8 @@ pub fn by_ands(
     ensures blank { Blank held.new }
 {
     let mut t = tally;
-    let mut i = 0;
-    while i < list.len() {
-        t = by_ands_at(codes, marks, list[i] as usize, old, held, new, t);
-        i += 1;
+    for start in list {
+        t = by_ands_at(codes, marks, *start as usize, old, held, new, t);
     }
     t
 }

@@ -12,8 +12,7 @@ ghost use Rattle.closure.specs.Passed.{Passed, ClosedTo, close_rounds};
 
 use crate::lead::first_leads;
 use crate::run::{Ended, run};
-use clauses::checks::{Check, check_entries, check_sizes};
-use clauses::fill::fill;
+use clauses::checks::{check_entries, check_sizes};
 use clauses::limits::{MAX_ENTRIES, MAX_NETS};
 use clauses::refusal::Refusal;
 use clauses::tally::tally_row;
@@ -24,7 +23,7 @@ use rules::Verdict;
 const NETS: usize = MAX_NETS as usize;
 
 // Entries of the work row (specs/Closing.antt).
-const MAX_WORK: usize = 16384;
+pub const MAX_WORK: usize = 16384;
 
 // How closing ends, the numbers of gates, and the groups left.
 #[derive(Clone, Copy)]
@@ -35,12 +34,6 @@ pub struct Summary {
     pub xors: u32,
     pub ites: u32,
     pub groups: u32,
-}
-
-#[derive(Clone, Copy)]
-pub enum Closing {
-    Accepted(Summary),
-    Refused(Refusal),
 }
 
 // Closes the list of a row of codes, and leaves the last leads; `next` and `older` are for the leads of other rounds.
@@ -103,23 +96,22 @@ fn close_in(
     marks: &mut [u8],
     next: &mut [u32],
     older: &mut [u32],
-) -> Closing
+) -> Result<Summary, Refusal>
     requires passed { Passed v row.now leads.old work.old }
     requires codes_len { (length codes.old ≡ max_entries) × (length marks.old ≡ max_entries) × (length next.old ≡ max_nets) × (length older.old ≡ max_nets) }
     ensures { record { result = result; leads = leads.new; work = work.new } ≡ close_rounds v row.now limit leads.old work.old }
 {
     let f = find_gates(row, codes, marks);
-    fill(&mut work[..MAX_WORK], 0);
+    work[..MAX_WORK].fill(0);
     let e = close_first(
         codes, marks, f.entries, limit, v as usize, leads, next, older,
     );
     if v + 1 < e.rounds {
-        return Closing::Refused(Refusal::TooManyRounds);
+        return Err(Refusal::TooManyRounds);
     }
-    let verdict = e.verdict;
     let counts = f.counts;
-    Closing::Accepted(Summary {
-        verdict: verdict,
+    Ok(Summary {
+        verdict: e.verdict,
         rounds: e.rounds,
         ands: counts.ands,
         xors: counts.xors,
@@ -129,7 +121,13 @@ fn close_in(
 }
 
 // The same, with rows of its own.
-fn close_rounds(v: u32, row: &[i32], limit: u32, leads: &mut [u32], work: &mut [u32]) -> Closing
+fn close_rounds(
+    v: u32,
+    row: &[i32],
+    limit: u32,
+    leads: &mut [u32],
+    work: &mut [u32],
+) -> Result<Summary, Refusal>
     requires { Passed v row.now leads.old work.old }
     ensures { record { result = result; leads = leads.new; work = work.new } ≡ close_rounds v row.now limit leads.old work.old }
 {
@@ -143,18 +141,15 @@ fn close_rounds(v: u32, row: &[i32], limit: u32, leads: &mut [u32], work: &mut [
 }
 
 // Tests 5 to 12, of a lead row and a work row with so many entries.
-pub fn check_list(v: u32, c: u32, row: &[i32], leads: usize, work: usize) -> Check
+pub fn check_list(v: u32, c: u32, row: &[i32], leads: usize, work: usize) -> Result<(), Refusal>
     ensures { result ≡ check_list v c row.now leads work }
 {
-    let sizes = check_sizes(v, c, row.len());
-    if let Check::Refused(r) = sizes {
-        return Check::Refused(r);
-    }
+    check_sizes(v, c, row.len())?;
     if leads < v as usize {
-        return Check::Refused(Refusal::LeadsTooShort);
+        return Err(Refusal::LeadsTooShort);
     }
     if work < MAX_WORK {
-        return Check::Refused(Refusal::WorkTooShort);
+        return Err(Refusal::WorkTooShort);
     }
     check_entries(c, tally_row(v, row))
 }
@@ -167,12 +162,9 @@ pub fn close(
     limit: u32,
     leads: &mut [u32],
     work: &mut [u32],
-) -> Closing
+) -> Result<Summary, Refusal>
     ensures { record { result = result; leads = leads.new; work = work.new } ≡ closing v c row.now limit leads.old work.old }
 {
-    let list = check_list(v, c, row, leads.len(), work.len());
-    if let Check::Refused(r) = list {
-        return Closing::Refused(r);
-    }
+    check_list(v, c, row, leads.len(), work.len())?;
     close_rounds(v, row, limit, leads, work)
 }

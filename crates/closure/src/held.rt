@@ -1,47 +1,39 @@
-// A lent row that holds the leads of a clause's literals but one, so that they are looked up at once.
+// A lent row that holds the leads of an AND's inputs, so that they are looked up at once.
 
 ghost use Rattle.std.specs.Prelude.{◌+◌, ◌*◌, ◌≤◌, length};
 ghost use Rattle.clauses.specs.Limit.{max_nets};
-ghost use Rattle.closure.specs.Holding.{Blank, Low, Holds, Put};
+ghost use Rattle.closure.specs.Holding.{Blank};
+ghost use Rattle.closure.specs.Inputs.{PutInputs, HoldsInputs};
 
+use crate::inputs::Inputs;
 use crate::lead::lead_of;
 
-// Whether the literals from b up to e are so few that they are searched faster than held.
-pub fn is_narrow(b: usize, e: usize) -> bool
-    requires { b ≤ e }
-{
-    e - b <= 8
-}
-
-// Makes the entries of the leads of the places from b up to e, other than p, v.
-fn put(codes: &[u32], old: &[u32], b: usize, e: usize, p: usize, v: u8, held: &mut [u8])
-    requires b_le_e { (b ≤ e) × (e ≤ length codes.now) }
-    requires low { Low codes.now old.now × (2 * max_nets + 2 ≤ length held.old) }
-    ensures { Put codes.now old.now b e p v held.old held.new }
-{
-    let mut q = b;
-    while q < e {
-        if q != p {
-            held[lead_of(old, codes[q]) as usize] = v;
+impl Inputs<'_> {
+    // Makes the entries of their leads v.
+    fn put(&self, v: bool, held: &mut [bool])
+        requires { 2 * max_nets + 2 ≤ length held.old }
+        ensures { PutInputs self.now v held.old held.new }
+    {
+        for q in self.start..self.end {
+            if q != self.output {
+                held[lead_of(self.old, self.codes[q]) as usize] = v;
+            }
         }
-        q += 1;
     }
-}
 
-// Holds the leads of the places from b up to e, other than p.
-pub fn hold(codes: &[u32], old: &[u32], b: usize, e: usize, p: usize, held: &mut [u8])
-    requires b_le_e { (b ≤ e) × (e ≤ length codes.now) }
-    requires low { Low codes.now old.now × Blank held.old }
-    ensures { Holds codes.now old.now b e p held.new }
-{
-    put(codes, old, b, e, p, 1, held);
-}
+    // Holds their leads.
+    pub fn hold(&self, held: &mut [bool])
+        requires { Blank held.old }
+        ensures { HoldsInputs self.now held.new }
+    {
+        self.put(true, held);
+    }
 
-// Lets them go.
-pub fn release(codes: &[u32], old: &[u32], b: usize, e: usize, p: usize, held: &mut [u8])
-    requires b_le_e { (b ≤ e) × (e ≤ length codes.now) }
-    requires low { Low codes.now old.now × Holds codes.now old.now b e p held.old }
-    ensures { Blank held.new }
-{
-    put(codes, old, b, e, p, 0, held);
+    // Lets them go.
+    pub fn release(&self, held: &mut [bool])
+        requires { HoldsInputs self.now held.old }
+        ensures { Blank held.new }
+    {
+        self.put(false, held);
+    }
 }

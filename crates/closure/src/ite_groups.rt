@@ -7,11 +7,11 @@ ghost use Rattle.closure.specs.IteSides.{InThree, IsSide, Pair, Hubs};
 ghost use Rattle.closure.specs.SideTable.{SideGroups, GroupJoined};
 ghost use Rattle.closure.specs.IteGroups.{Alike, Held, Holders, Served, Matching, Matchable, IsLast, OneOutput};
 
+use crate::hubs::SideHubs;
 use crate::ite_sides::{output_of, pair_key, select_of, then_of};
 use crate::lead::lead_of;
-use crate::table::{last_slot, slot_before};
+use crate::table::KeyTable;
 use crate::tally::Tally;
-use clauses::fill::fill;
 use clauses::sign::flipped;
 
 // Whether sides k and j make an ITE.
@@ -75,164 +75,136 @@ fn match_pair(
 }
 
 // .. for all ITEs whose first side is k.
-fn match_side(
+fn match_side<const NUMBERS: usize, const BUCKETS: usize>(
     codes: &[u32],
     k: usize,
-    hubs: &[u32],
-    links: &[u32],
+    hubs: &SideHubs<NUMBERS, BUCKETS>,
     old: &[u32],
     holders: &mut [u32],
     new: &mut [u32],
     tally: Tally,
 ) -> Tally
-    requires { (marks : List ℕ) × Matchable codes.now marks hubs.now links.now old.now holders.old new.old tally × IsSide codes.now marks k }
-    ensures { (marks : List ℕ) → Matchable codes.now marks hubs.now links.now old.now holders.old new.old tally → IsSide codes.now marks k
+    requires { (marks : List ℕ) × Matchable codes.now marks hubs.now old.now holders.old new.old tally × IsSide codes.now marks k }
+    ensures { (marks : List ℕ) → Matchable codes.now marks hubs.now old.now holders.old new.old tally → IsSide codes.now marks k
         → Matching codes.now marks old.now k holders.old new.old tally holders.new new.new result
         × ((j : ℕ) → Pair codes.now marks k j → Served codes.now old.now holders.new new.new result k j) }
 {
     let mut t = tally;
     let c = flipped(true, select_of(codes, k));
     let key = pair_key(c, output_of(codes, k));
-    let mut j = hubs[(key % (hubs.len() as u64)) as usize] as usize;
+    let b = (key % (BUCKETS as u64)) as usize;
+    let mut j = hubs.heads[b] as usize;
     while 0 < j {
         if is_pair(codes, k, j - 1) {
             t = match_pair(codes, k, j - 1, old, holders, new, t);
         }
-        j = links[j - 1] as usize;
+        j = hubs.links[j - 1] as usize;
     }
     t
 }
 
-// Whether the new leads join the outputs of the sides in the entries from `last` down with one key.
-fn has_one_output(
+// Whether the new leads join the outputs of the sides in the entries with the key of `last`, the last one of them.
+fn has_one_output<const ENTRIES: usize, const BUCKETS: usize>(
     codes: &[u32],
     last: usize,
-    sides: &[u32],
-    likes: &[u64],
-    next: &[u32],
+    sides: &KeyTable<ENTRIES, BUCKETS>,
     new: &[u32],
 ) -> bool
-    requires by_index { (marks : List ℕ) × (old : List ℕ) × (heads : List ℕ) × SideGroups codes.now marks old sides.now likes.now next.now heads }
-    requires last { IsLast sides.now likes.now last }
-    ensures { result ≡ true → OneOutput codes.now new.now sides.now likes.now (get_or likes.now (last - 1) 0) }
+    requires by_index { (marks : List ℕ) × (old : List ℕ) × SideGroups codes.now marks old sides.now }
+    requires last { IsLast sides.now last }
+    ensures { result ≡ true → OneOutput codes.now new.now sides.now (get_or sides.now.keys last 0) }
 {
-    let x = lead_of(new, output_of(codes, sides[last - 1] as usize));
-    let mut k = slot_before(likes, next, last);
-    while 0 < k {
-        if lead_of(new, output_of(codes, sides[k - 1] as usize)) != x {
+    let x = lead_of(new, output_of(codes, sides.values[last] as usize));
+    let mut at = sides.slot_before(last);
+    while let Some(k) = at {
+        if lead_of(new, output_of(codes, sides.values[k] as usize)) != x {
             return false;
         }
-        k = slot_before(likes, next, k);
+        at = sides.slot_before(k);
     }
     true
 }
 
-// Rule 8 for the ITEs whose first sides are in the entries from `last` down with one key.
-fn match_likes(
+// Rule 8 for the ITEs whose first sides are in the entries with the key of `last`, the last one of them.
+fn match_likes<const ENTRIES: usize, const NUMBERS: usize, const BUCKETS: usize>(
     codes: &[u32],
     last: usize,
-    sides: &[u32],
-    likes: &[u64],
-    next: &[u32],
-    hubs: &[u32],
-    links: &[u32],
+    sides: &KeyTable<ENTRIES, BUCKETS>,
+    hubs: &SideHubs<NUMBERS, BUCKETS>,
     old: &[u32],
     holders: &mut [u32],
     new: &mut [u32],
     tally: Tally,
 ) -> Tally
-    requires by_index { (marks : List ℕ) × (heads : List ℕ) × Matchable codes.now marks hubs.now links.now old.now holders.old new.old tally × SideGroups codes.now marks old.now sides.now likes.now next.now heads }
-    requires last { IsLast sides.now likes.now last }
-    ensures { (marks : List ℕ) (heads : List ℕ) → Matchable codes.now marks hubs.now links.now old.now holders.old new.old tally → SideGroups codes.now marks old.now sides.now likes.now next.now heads
+    requires by_index { (marks : List ℕ) × Matchable codes.now marks hubs.now old.now holders.old new.old tally × SideGroups codes.now marks old.now sides.now }
+    requires last { IsLast sides.now last }
+    ensures { (marks : List ℕ) → Matchable codes.now marks hubs.now old.now holders.old new.old tally → SideGroups codes.now marks old.now sides.now
         → Went codes.now marks old.now new.old tally new.new result
         × Holders codes.now marks old.now holders.new
-        × GroupJoined codes.now marks old.now new.new result sides.now likes.now (get_or likes.now (last - 1) 0) }
+        × GroupJoined codes.now marks old.now new.new result sides.now (get_or sides.now.keys last 0) }
 {
     let mut t = tally;
-    let mut k = last;
-    while 0 < k {
-        let s = sides[k - 1] as usize;
-        t = match_side(codes, s, hubs, links, old, holders, new, t);
-        k = slot_before(likes, next, k);
+    let mut at = Some(last);
+    while let Some(k) = at {
+        let s = sides.values[k] as usize;
+        t = match_side(codes, s, hubs, old, holders, new, t);
+        at = sides.slot_before(k);
     }
     t
 }
 
 // .. for the entries with the key of entry i, unless a later one has it, or all their outputs are joined.
-fn match_group(
+fn match_group<const ENTRIES: usize, const NUMBERS: usize, const BUCKETS: usize>(
     codes: &[u32],
     i: usize,
-    sides: &[u32],
-    likes: &[u64],
-    next: &[u32],
-    heads: &[u32],
-    hubs: &[u32],
-    links: &[u32],
+    sides: &KeyTable<ENTRIES, BUCKETS>,
+    hubs: &SideHubs<NUMBERS, BUCKETS>,
     old: &[u32],
     holders: &mut [u32],
     new: &mut [u32],
     t: Tally,
 ) -> Tally
-    requires by_index { (marks : List ℕ) × Matchable codes.now marks hubs.now links.now old.now holders.old new.old t × SideGroups codes.now marks old.now sides.now likes.now next.now heads.now }
-    requires i_in_bounds { i < length sides.now }
-    ensures { (marks : List ℕ) → Matchable codes.now marks hubs.now links.now old.now holders.old new.old t → SideGroups codes.now marks old.now sides.now likes.now next.now heads.now
+    requires by_index { (marks : List ℕ) × Matchable codes.now marks hubs.now old.now holders.old new.old t × SideGroups codes.now marks old.now sides.now }
+    requires i_in_bounds { i < sides.now.count }
+    ensures { (marks : List ℕ) → Matchable codes.now marks hubs.now old.now holders.old new.old t → SideGroups codes.now marks old.now sides.now
         → Went codes.now marks old.now new.old t new.new result
         × Holders codes.now marks old.now holders.new
-        × (IsLast sides.now likes.now (i + 1) → GroupJoined codes.now marks old.now new.new result sides.now likes.now (get_or likes.now i 0)) }
+        × (IsLast sides.now i → GroupJoined codes.now marks old.now new.new result sides.now (get_or sides.now.keys i 0)) }
 {
-    if last_slot(likes, next, heads, likes[i]) != i + 1 {
+    if sides.last_slot(sides.keys[i]) != Some(i) {
         return t;
     }
-    if has_one_output(codes, i + 1, sides, likes, next, new) {
+    if has_one_output(codes, i, sides, new) {
         return t;
     }
-    match_likes(
-        codes,
-        i + 1,
-        sides,
-        likes,
-        next,
-        hubs,
-        links,
-        old,
-        holders,
-        new,
-        t,
-    )
+    match_likes(codes, i, sides, hubs, old, holders, new, t)
 }
 
 // .. for the keys of the entries from number `from` on: those that have been entered in this round.
-pub fn by_groups(
+#[inline(never)]
+pub fn by_groups<const ENTRIES: usize, const NUMBERS: usize, const BUCKETS: usize>(
     codes: &[u32],
     from: usize,
-    sides: &[u32],
-    likes: &[u64],
-    next: &[u32],
-    heads: &[u32],
-    hubs: &[u32],
-    links: &[u32],
+    sides: &KeyTable<ENTRIES, BUCKETS>,
+    hubs: &SideHubs<NUMBERS, BUCKETS>,
     old: &[u32],
     holders: &mut [u32],
     new: &mut [u32],
     tally: Tally,
 ) -> Tally
-    requires by_index { (marks : List ℕ) × Ready codes.now marks old.now new.old tally × SideGroups codes.now marks old.now sides.now likes.now next.now heads.now × Hubs codes.now marks hubs.now links.now }
+    requires by_index { (marks : List ℕ) × Ready codes.now marks old.now new.old tally × SideGroups codes.now marks old.now sides.now × Hubs codes.now marks hubs.now }
     requires in_bounds { 2 * length old.now + 2 ≤ length holders.old }
-    ensures { (marks : List ℕ) → Ready codes.now marks old.now new.old tally → SideGroups codes.now marks old.now sides.now likes.now next.now heads.now → Hubs codes.now marks hubs.now links.now
+    ensures { (marks : List ℕ) → Ready codes.now marks old.now new.old tally → SideGroups codes.now marks old.now sides.now → Hubs codes.now marks hubs.now
         → Went codes.now marks old.now new.old tally new.new result
-        × ((i : ℕ) → from ≤ i → i < length sides.now → GroupJoined codes.now marks old.now new.new result sides.now likes.now (get_or likes.now i 0)) }
+        × ((i : ℕ) → from ≤ i → i < sides.now.count → GroupJoined codes.now marks old.now new.new result sides.now (get_or sides.now.keys i 0)) }
 {
     let mut t = tally;
-    if sides.len() <= from {
+    if sides.count <= from {
         return t;
     }
-    fill(holders, 0);
-    let mut i = from;
-    while i < sides.len() {
-        t = match_group(
-            codes, i, sides, likes, next, heads, hubs, links, old, holders, new, t,
-        );
-        i += 1;
+    holders.fill(0);
+    for i in from..sides.count {
+        t = match_group(codes, i, sides, hubs, old, holders, new, t);
     }
     t
 }

@@ -9,6 +9,7 @@ mod clashes;
 pub mod close;
 mod held;
 mod hubs;
+mod inputs;
 mod ite_groups;
 mod ite_mates;
 mod ite_sides;

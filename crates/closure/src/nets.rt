@@ -2,7 +2,6 @@
 
 ghost use Rattle.std.specs.Prelude.{◌≡◌, List, ◌∷◌, ℕ, ◌<◌};
 ghost use Rattle.clauses.specs.Code.{net};
-ghost use Rattle.clauses.specs.Sign.{plus};
 ghost use Rattle.rules.specs.Answer.{lead_of};
 ghost use Rattle.closure.specs.Xors.{toggled, odd_nets, packed, Digits, others, rest_of, Packable};
 
@@ -14,13 +13,6 @@ use clauses::sign::is_inverse;
 pub struct Rest {
     pub key: u64,
     pub odd: bool,
-}
-
-// Whether one of two bits is set, and not both.
-fn one_of(a: bool, b: bool) -> bool
-    ensures { result ≡ plus a b }
-{
-    if a { !b } else { b }
 }
 
 // A packed set with net w put in, or taken out if it was in.
@@ -51,17 +43,14 @@ impl Rest {
         requires { (net lead < 65536) × (self.key < 281474976710656) }
         ensures { (f : ℕ → ℕ) (x : ℕ) (xs : List ℕ) → f x ≡ lead → Digits (odd_nets f xs) → self ≡ rest_of f xs → result ≡ rest_of f (x ∷ xs) }
     {
-        let odd = one_of(is_inverse(lead), self.odd);
         let w = (lead / 2) as u64;
-        if w == 0 {
-            return Rest {
-                key: self.key,
-                odd: odd,
-            };
-        }
         Rest {
-            key: toggle(w, self.key),
-            odd: odd,
+            key: if w == 0 {
+                self.key
+            } else {
+                toggle(w, self.key)
+            },
+            odd: is_inverse(lead) != self.odd,
         }
     }
 }
@@ -72,13 +61,10 @@ pub fn rest_of(codes: &[u32], old: &[u32], b: usize, n: usize, p: usize) -> Rest
     ensures { result ≡ rest_of (lead_of old.now) (others codes.now p b n) }
 {
     let mut r = Rest { key: 0, odd: false };
-    let mut i = 0;
-    while i < n {
-        let q = b + i;
+    for q in b..b + n {
         if q != p {
             r = r.with(lead_of(old, codes[q]));
         }
-        i += 1;
     }
     r
 }

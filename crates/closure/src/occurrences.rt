@@ -1,43 +1,40 @@
 // The index of a row: the occurrence list of each net, the clause of each place, and whether a rule about the gates of the clause reads its lead. It is made once for a row of clauses.
 
-ghost use Rattle.std.specs.Prelude.{◌≡◌, ◌⊎◌, true, ℕ, ◌+◌, ◌≤◌, ◌<◌, length, get_or};
+ghost use Rattle.std.specs.Prelude.{◌≡◌, ◌⊎◌, true, false, MatchOption, ℕ, ◌≤◌, ◌<◌, length, get_or};
 ghost use Rattle.clauses.specs.Limit.{max_entries};
-ghost use Rattle.gates.specs.Found.{is_and};
-ghost use Rattle.clauses.specs.Row.{around};
+ghost use Rattle.clauses.specs.Row.{LiteralAt, around};
+ghost use Rattle.clauses.specs.Chains.{Chained};
 ghost use Rattle.closure.specs.Marked.{Ended};
-ghost use Rattle.closure.specs.Occurrences.{net_at, FirstTwo, Ties, Thens, Reads, PlaceListed, PlacesListed, Indexed};
+ghost use Rattle.closure.specs.Occurrences.{net_at, NoAnd, FirstTwo, Ties, Thens, Reads, PlaceListed, PlacesListed, Indexed};
 
 use clauses::chain::link;
-use clauses::fill::fill;
 use clauses::place::clause_end;
 
-// The first place from `from` on, below `to`, that is the output of an AND; none below `to` is where it is not below `to`.
-fn first_and(marks: &[u8], from: usize, to: usize) -> usize
-    requires { to ≤ length marks.now }
-    ensures { (from ≤ to → result ≤ to) × ((p : ℕ) → from ≤ p → p < to → is_and (get_or marks.now p 0) ≡ true → result ≤ p) }
-{
-    let mut p = from;
-    while p < to {
-        if marks[p] % 2 == 1 {
-            return p;
-        }
-        p += 1;
-    }
-    p
+// The index of a row, in rows that are lent.
+#[derive(Clone, Copy)]
+pub struct Occurrences<'a> {
+    pub codes: &'a [u32],
+    // for a place: where its clause starts
+    pub starts: &'a [u32],
+    // for a place: whether a rule about gates reads its lead
+    pub reads: &'a [bool],
+    // for a net: its last place, counted from 1
+    pub occurs: &'a [u32],
+    // for a place: the one before it of its net, counted from 1
+    pub links: &'a [u32],
+    ghost ended: { Ended codes.now },
+    ghost entries: { length codes.now ≤ max_entries },
+    ghost clauses: { (b q : ℕ) → LiteralAt codes.now b q → get_or starts.now q 0 ≡ b },
+    ghost rooms: { (length codes.now ≤ length starts.now) × (length codes.now ≤ length reads.now) × (length codes.now ≤ length links.now) },
+    ghost chains: { Chained (net_at codes.now) (length codes.now) occurs.now links.now },
 }
 
-// Whether a gate ties place q of the clause that ends at e, of which the first outputs of ANDs are at `first` and `second`.
-fn is_tied(marks: &[u8], q: usize, e: usize, first: usize, second: usize) -> bool
-    requires { e < length marks.now }
-    ensures { (b : ℕ) → FirstTwo marks.now b e first second → Ties marks.now b e q → result ≡ true }
+// The first place from `from` on, below `to`, that is the output of an AND.
+fn first_and(marks: &[u8], from: usize, to: usize) -> Option<usize>
+    requires { to ≤ length marks.now }
+    ensures { MatchOption result (NoAnd marks.now from to) (λ r. (r < to) × NoAnd marks.now from r) }
 {
-    if marks[e] == 1 {
-        return true;
-    }
-    if q != first {
-        return first < e;
-    }
-    second < e
+    (from..to).find(|p| marks[*p] % 2 == 1)
 }
 
 // The place after p in the clause of three literals at b, the first one coming after the last.
@@ -45,69 +42,92 @@ fn place_after(b: usize, p: usize) -> usize
     requires { (b ≤ max_entries) × (p ≤ max_entries) }
     ensures { result ≡ around b p }
 {
-    if p == b + 2 {
-        return b;
-    }
-    p + 1
+    if p == b + 2 { b } else { p + 1 }
 }
 
-// Whether place q of the clause from b up to its ending at e holds the literal t of a side.
-fn is_then(marks: &[u8], b: usize, e: usize, q: usize) -> bool
-    requires { (b ≤ q) × (q < e) × (e ≤ length marks.now) × (e ≤ max_entries) }
-    ensures { Thens marks.now b e q → result ≡ true }
-{
-    if e != b + 3 {
-        return false;
-    }
-    let next = place_after(b, q);
-    if marks[next] / 2 % 2 == 1 {
-        return true;
-    }
-    marks[place_after(b, next)] / 4 % 2 == 1
+// The gates of the clause from `start` up to its ending at `end`, by their marks, and where its first two outputs of ANDs are.
+#[derive(Clone, Copy)]
+struct Gates<'a> {
+    marks: &'a [u8],
+    start: usize,
+    end: usize,
+    first: Option<usize>,
+    second: Option<usize>,
+    ghost clause: { (start ≤ end) × (end < length marks.now) × (end ≤ max_entries) },
+    ghost ands: { FirstTwo marks.now start end first second },
 }
 
-// Whether a rule about the gates of the clause from b up to its ending at e, of which the first outputs of ANDs are at `first` and `second`, reads the lead at its place q.
-fn is_read(marks: &[u8], b: usize, e: usize, q: usize, first: usize, second: usize) -> bool
-    requires { (b ≤ q) × (q < e) × (e < length marks.now) × (e ≤ max_entries) }
-    ensures { FirstTwo marks.now b e first second → Reads marks.now b e q → result ≡ true }
-{
-    if is_tied(marks, q, e, first, second) {
-        return true;
+impl<'a> Gates<'a> {
+    fn of(marks: &'a [u8], start: usize, end: usize) -> Gates<'a>
+        requires { (start ≤ end) × (end < length marks.now) × (end ≤ max_entries) }
+        ensures { (result.marks.now ≡ marks.now) × (result.start ≡ start) × (result.end ≡ end) }
+    {
+        let first = first_and(marks, start, end);
+        let second = match first {
+            Some(p) => first_and(marks, p + 1, end),
+            None => None,
+        };
+        Gates {
+            marks,
+            start,
+            end,
+            first,
+            second,
+        }
     }
-    if 1 < marks[q] {
-        return true;
-    }
-    is_then(marks, b, e, q)
-}
 
-// 1 if it is read.
-fn read_mark(read: bool) -> u8
-    ensures { read ≡ true → result ≡ 1 }
-{
-    if read {
-        return 1;
+    // Whether one ties place q.
+    fn ties(&self, q: usize) -> bool
+        ensures { Ties self.now.marks.now self.now.start self.now.end q → result ≡ true }
+    {
+        if self.marks[self.end] == 1 {
+            return true;
+        }
+        match self.first {
+            Some(p) => p != q || self.second.is_some(),
+            None => false,
+        }
     }
-    0
+
+    // Whether place q holds the literal t of a side.
+    fn has_then(&self, q: usize) -> bool
+        requires { (self.now.start ≤ q) × (q < self.now.end) }
+        ensures { Thens self.now.marks.now self.now.start self.now.end q → result ≡ true }
+    {
+        if self.end != self.start + 3 {
+            return false;
+        }
+        let next = place_after(self.start, q);
+        if self.marks[next] / 2 % 2 == 1 {
+            return true;
+        }
+        self.marks[place_after(self.start, next)] / 4 % 2 == 1
+    }
+
+    // Whether a rule about them reads the lead at place q.
+    fn reads(&self, q: usize) -> bool
+        requires { (self.now.start ≤ q) × (q < self.now.end) }
+        ensures { Reads self.now.marks.now self.now.start self.now.end q → result ≡ true }
+    {
+        self.ties(q) || 1 < self.marks[q] || self.has_then(q)
+    }
 }
 
 // Lists the places of the clause from b up to its ending at e.
-fn list_places(marks: &[u8], b: usize, e: usize, starts: &mut [u32], reads: &mut [u8])
+fn list_places(marks: &[u8], b: usize, e: usize, starts: &mut [u32], reads: &mut [bool])
     requires { (b ≤ e) × (e < length marks.now) × (e ≤ length starts.old) × (e ≤ length reads.old) × (e ≤ max_entries) }
     ensures places { (q : ℕ) → b ≤ q → q < e → PlaceListed marks.now b e starts.new reads.new q }
-    ensures others { (q : ℕ) → (q < b) ⊎ (e ≤ q) → (get_or starts.new q 0 ≡ get_or starts.old q 0) × (get_or reads.new q 0 ≡ get_or reads.old q 0) }
+    ensures others { (q : ℕ) → (q < b) ⊎ (e ≤ q) → (get_or starts.new q 0 ≡ get_or starts.old q 0) × (get_or reads.new q false ≡ get_or reads.old q false) }
 {
-    let first = first_and(marks, b, e);
-    let second = first_and(marks, first + 1, e);
-    let mut q = b;
-    while q < e {
+    let gates = Gates::of(marks, b, e);
+    for q in b..e {
         starts[q] = b as u32;
-        reads[q] = read_mark(is_read(marks, b, e, q, first, second));
-        q += 1;
+        reads[q] = gates.reads(q);
     }
 }
 
 // Lists the places of all clauses.
-fn list_clauses(codes: &[u32], marks: &[u8], starts: &mut [u32], reads: &mut [u8])
+fn list_clauses(codes: &[u32], marks: &[u8], starts: &mut [u32], reads: &mut [bool])
     requires ended { Ended codes.now × (length marks.now ≡ length codes.now) × (length codes.now ≤ max_entries) }
     requires codes_in_bounds { (length codes.now ≤ length starts.old) × (length codes.now ≤ length reads.old) }
     ensures { PlacesListed codes.now marks.now starts.new reads.new (length codes.now) }
@@ -121,24 +141,31 @@ fn list_clauses(codes: &[u32], marks: &[u8], starts: &mut [u32], reads: &mut [u8
 }
 
 // Makes the index of a row.
-pub fn index_row(
-    codes: &[u32],
+pub fn index_row<'a>(
+    codes: &'a [u32],
     marks: &[u8],
-    starts: &mut [u32],
-    reads: &mut [u8],
-    occurs: &mut [u32],
-    links: &mut [u32],
-)
+    starts: &'a mut [u32],
+    reads: &'a mut [bool],
+    occurs: &'a mut [u32],
+    links: &'a mut [u32],
+) -> Occurrences<'a>
     requires ended { Ended codes.now × (length marks.now ≡ length codes.now) × (length codes.now ≤ max_entries) }
     requires codes_in_bounds { (length codes.now ≤ length starts.old) × (length codes.now ≤ length reads.old) × (length codes.now ≤ length links.old) }
     requires by_index { (q : ℕ) → net_at codes.now q < length occurs.old }
-    ensures { Indexed codes.now marks.now starts.new reads.new occurs.new links.new }
+    ensures row { result.codes.now ≡ codes.now }
+    ensures nets { length result.occurs.now ≡ length occurs.old }
+    ensures index { Indexed codes.now marks.now result.starts.now result.reads.now result.occurs.now result.links.now }
 {
     list_clauses(codes, marks, starts, reads);
-    fill(occurs, 0);
-    let mut q = 0;
-    while q < codes.len() {
-        link((codes[q] / 2) as usize, q, occurs, links);
-        q += 1;
+    occurs.fill(0);
+    for (q, code) in codes.iter().enumerate() {
+        link((code / 2) as usize, q, occurs, links);
+    }
+    Occurrences {
+        codes,
+        starts,
+        reads,
+        occurs,
+        links,
     }
 }

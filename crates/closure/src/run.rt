@@ -1,6 +1,7 @@
 // Rounds, one after the other, up to a round limit. The tables of gates are kept from round to round.
 
 ghost use Rattle.std.specs.Prelude.{◌≡◌, ◌≢◌, true, false, ◌+◌, ◌*◌, ◌≤◌, length};
+ghost use Rattle.std.specs.declared.ops.ControlFlow.TheVariants.{Break};
 ghost use Rattle.clauses.specs.Limit.{max_nets, max_entries};
 ghost use Rattle.clauses.specs.Clause.{clauses_in};
 ghost use Rattle.clauses.specs.Listing.{Fits};
@@ -12,18 +13,19 @@ ghost use Rattle.closure.specs.Rounds.{is_still, Followed, Room};
 
 use crate::and_pairs::by_and_pairs;
 use crate::ands::by_ands;
-use crate::hubs::chain_hubs;
+use crate::hubs::SideHubs;
 use crate::ite_groups::by_groups;
 use crate::ite_mates::by_sides;
-use crate::lead::copy_leads;
 use crate::occurrences::index_row;
+use crate::side_table::KeptSides;
+use crate::table::KeyTable;
 use crate::tally::Tally;
 use crate::units::by_clauses;
 use crate::worklist::{list_all, list_changed};
-use crate::xors::{Pass, by_xors};
-use clauses::fill::fill;
+use crate::xors::by_xors;
 use clauses::limits::{CODES, MAX_ENTRIES, MAX_NETS};
 use rules::Verdict;
+use std::ops::ControlFlow;
 
 // Entries of a row with one for each net and one for the constants.
 const NETS: usize = MAX_NETS as usize + 1;
@@ -50,21 +52,11 @@ pub struct Ended {
     pub groups: u32,
 }
 
-// The rounds made and the groups left, and whether more rounds follow; if not, how closing ends.
+// The rounds made and the groups left.
 #[derive(Clone, Copy)]
 pub struct Progress {
-    pub verdict: Verdict,
     pub rounds: u32,
     pub groups: u32,
-    pub more: bool,
-}
-
-// The slots taken in the tables: by ANDs, by literals of XORs, and by sides.
-#[derive(Clone, Copy)]
-pub struct Slots {
-    pub ands: usize,
-    pub xors: usize,
-    pub sides: usize,
 }
 
 // Whether a round has joined nothing.
@@ -78,15 +70,14 @@ fn is_still(t: Tally) -> bool
 }
 
 // The end with this verdict.
-fn end_with(verdict: Verdict, rounds: u32, groups: u32) -> Progress
-    ensures { result ≡ record { verdict = verdict; rounds = rounds; groups = groups; more = false } }
+fn end_with(verdict: Verdict, rounds: u32, groups: u32) -> ControlFlow<Ended, Progress>
+    ensures { result ≡ Break (record { verdict = verdict; rounds = rounds; groups = groups }) }
 {
-    Progress {
-        verdict: verdict,
-        rounds: rounds,
-        groups: groups,
-        more: false,
-    }
+    ControlFlow::Break(Ended {
+        verdict,
+        rounds,
+        groups,
+    })
 }
 
 // What follows a round with this tally: an end, or the next round from its leads.
@@ -97,7 +88,7 @@ fn follow(
     next: &[u32],
     leads: &mut [u32],
     older: &mut [u32],
-) -> Progress
+) -> ControlFlow<Ended, Progress>
     requires next_len { (length next.now ≡ length leads.old) × (length older.old ≡ length leads.old) }
     requires rounds_le_limit { s.rounds ≤ limit }
     ensures { Followed limit s t leads.old next.now leads.new older.new result }
@@ -111,45 +102,41 @@ fn follow(
         return end_with(Verdict::Unfinished, rounds, s.groups);
     }
     if t.clash {
-        fill(leads, NO_LEAD);
+        leads.fill(NO_LEAD);
         return end_with(Verdict::Contradiction, rounds + 1, 0);
     }
-    copy_leads(leads, older);
-    copy_leads(next, leads);
-    Progress {
-        verdict: Verdict::Unfinished,
+    older.copy_from_slice(leads);
+    leads.copy_from_slice(next);
+    ControlFlow::Continue(Progress {
         rounds: rounds + 1,
         groups: t.groups,
-        more: true,
-    }
+    })
 }
 
-// Whether the tables have room for the gates of clauses with so many entries: a slot for each entry, and three sides for two.
-fn has_room(slots: Slots, entries: usize) -> bool
-    requires { (slots.ands ≤ max_entries) × (slots.xors ≤ max_entries) × (slots.sides ≤ 2 * max_entries) × (entries ≤ max_entries) }
-    ensures { result ≡ true → Room slots entries }
-{
-    if SLOTS < slots.ands + entries {
-        return false;
-    }
-    if SLOTS < slots.xors + entries {
-        return false;
-    }
-    2 * slots.sides + 3 * entries <= 2 * SIDES
-}
-
-// Whether the tables are made anew for the next round: before the first one, and where they have no room for the gates that changed.
-fn is_anew(rounds: u32, slots: Slots, entries: usize) -> bool
-    requires { (slots.ands ≤ max_entries) × (slots.xors ≤ max_entries) × (slots.sides ≤ 2 * max_entries) × (entries ≤ max_entries) }
-    ensures { result ≡ false → (rounds ≢ 0) × Room slots entries }
+// Whether the tables are made anew for the next round: before the first one, and where they have no room for the gates of clauses with so many entries.
+fn is_anew(
+    rounds: u32,
+    ands: &KeyTable<SLOTS, BUCKETS>,
+    xors: &KeyTable<SLOTS, BUCKETS>,
+    sides: &KeptSides<SIDES, BUCKETS>,
+    entries: usize,
+) -> bool
+    requires { entries ≤ max_entries }
+    ensures { result ≡ false → (rounds ≢ 0) × Room ands.now.count xors.now.count sides.now.table.count entries }
 {
     if rounds == 0 {
         return true;
     }
-    !has_room(slots, entries)
+    if !ands.has_room(entries) {
+        return true;
+    }
+    if !xors.has_room(entries) {
+        return true;
+    }
+    !sides.has_room(entries)
 }
 
-// Makes rounds up to the limit, from the first leads on, and leaves the last ones; `next` has the leads of the round that is being made, `older` those before the last one. A round goes over the clauses that changed, and over all of them where the tables are made anew.
+// Makes rounds up to the limit, from the first leads on, and leaves the last ones; `next` has the leads of the round that is being made, `older` those before the last one. A round goes over the clauses that changed, and over all of them where the tables are made anew. The passes with tables are not inlined here, so that their loops have the registers to themselves.
 pub fn run(
     codes: &[u32],
     marks: &[u8],
@@ -166,30 +153,18 @@ pub fn run(
     ensures groups_value { result.groups ≡ length (own (length leads.old) leads.new) }
 {
     let mut starts = [0u32; MAX_ENTRIES];
-    let mut reads = [0u8; MAX_ENTRIES];
+    let mut reads = [false; MAX_ENTRIES];
     let mut occurs = [0u32; NETS];
     let mut links = [0u32; MAX_ENTRIES];
-    let mut hubs = [0u32; BUCKETS];
-    let mut hub_links = [0u32; NUMBERS];
-    let mut seen = [0u8; MAX_ENTRIES];
+    let mut seen = [false; MAX_ENTRIES];
     let mut list = [0u32; MAX_ENTRIES];
-    let mut held = [0u8; CODES];
+    let mut held = [false; CODES];
     let mut holders = [0u32; CODES];
-    let mut and_keys = [0u64; SLOTS];
-    let mut and_slots = [0u32; SLOTS];
-    let mut and_next = [0u32; SLOTS];
-    let mut and_heads = [0u32; BUCKETS];
-    let mut xor_keys = [0u64; SLOTS];
-    let mut xor_sums = [0u32; SLOTS];
-    let mut xor_next = [0u32; SLOTS];
-    let mut xor_heads = [0u32; BUCKETS];
-    let mut sides = [0u32; SIDES];
-    let mut likes = [0u64; SIDES];
-    let mut mate_next = [0u32; SIDES];
-    let mut mate_heads = [0u32; BUCKETS];
-    let mut like_next = [0u32; SIDES];
-    let mut like_heads = [0u32; BUCKETS];
-    index_row(
+    let mut ands: KeyTable<SLOTS, BUCKETS> = KeyTable::new();
+    let mut xors: KeyTable<SLOTS, BUCKETS> = KeyTable::new();
+    let mut sides: KeptSides<SIDES, BUCKETS> = KeptSides::new();
+    let mut hubs: SideHubs<NUMBERS, BUCKETS> = SideHubs::new();
+    let occurrences = index_row(
         codes,
         marks,
         &mut starts,
@@ -197,36 +172,21 @@ pub fn run(
         &mut occurs,
         &mut links,
     );
-    chain_hubs(codes, marks, &mut hubs, &mut hub_links);
-    let mut slots = Slots {
-        ands: 0,
-        xors: 0,
-        sides: 0,
-    };
+    hubs.chain(codes, marks);
     let mut s = Progress {
-        verdict: Verdict::Unfinished,
         rounds: 0,
         groups: leads.len() as u32,
-        more: true,
     };
-    while s.more {
-        let mut work = list_changed(
-            codes, &starts, &reads, &occurs, &links, older, leads, &mut seen, &mut list,
-        );
-        if is_anew(s.rounds, slots, work.entries) {
-            fill(&mut and_heads, 0);
-            fill(&mut xor_heads, 0);
-            fill(&mut mate_heads, 0);
-            fill(&mut like_heads, 0);
-            slots = Slots {
-                ands: 0,
-                xors: 0,
-                sides: 0,
-            };
+    loop {
+        let mut work = list_changed(&occurrences, older, leads, &mut seen, &mut list);
+        if is_anew(s.rounds, &ands, &xors, &sides, work.entries) {
+            ands.clear();
+            xors.clear();
+            sides.clear();
             work = list_all(codes, &mut list);
         }
         let n = work.clauses;
-        let from = slots.sides;
+        let from = sides.table.count;
         let first = Tally {
             groups: s.groups,
             joins: 0,
@@ -234,82 +194,31 @@ pub fn run(
         };
         let units = by_clauses(codes, marks, &list[..n], leads, next, first);
         let outputs = by_ands(codes, marks, &list[..n], leads, &mut held, next, units);
-        let ands = by_and_pairs(
+        let pairs = by_and_pairs(
             codes,
             marks,
             &list[..n],
             leads,
-            &mut and_keys,
-            &mut and_slots,
-            &mut and_next,
-            &mut and_heads,
+            &mut ands,
             &mut held,
             next,
-            Pass {
-                tally: outputs,
-                count: slots.ands,
-            },
+            outputs,
         );
-        let after_ands = ands.tally;
-        let xors = by_xors(
-            codes,
-            marks,
-            &list[..n],
-            leads,
-            &mut xor_keys,
-            &mut xor_sums,
-            &mut xor_next,
-            &mut xor_heads,
-            next,
-            Pass {
-                tally: after_ands,
-                count: slots.xors,
-            },
-        );
-        let after_xors = xors.tally;
-        let ites = by_sides(
-            codes,
-            marks,
-            &list[..n],
-            leads,
-            &mut sides,
-            &mut likes,
-            &mut mate_next,
-            &mut mate_heads,
-            &mut like_next,
-            &mut like_heads,
-            next,
-            Pass {
-                tally: after_xors,
-                count: from,
-            },
-        );
-        let entered = ites.count;
+        let sums = by_xors(codes, marks, &list[..n], leads, &mut xors, next, pairs);
+        let mates = by_sides(codes, marks, &list[..n], leads, &mut sides, next, sums);
         let t = by_groups(
             codes,
             from,
-            &sides[..entered],
-            &likes,
-            &like_next,
-            &like_heads,
+            &sides.table,
             &hubs,
-            &hub_links,
             leads,
             &mut holders,
             next,
-            ites.tally,
+            mates,
         );
-        slots = Slots {
-            ands: ands.count,
-            xors: xors.count,
-            sides: entered,
-        };
-        s = follow(limit, s, t, next, leads, older);
-    }
-    let verdict = s.verdict;
-    Ended {
-        verdict: verdict,
-        rounds: s.rounds,
-        groups: s.groups,
+        match follow(limit, s, t, next, leads, older) {
+            ControlFlow::Continue(p) => s = p,
+            ControlFlow::Break(end) => return end,
+        }
     }
 }

@@ -1,13 +1,13 @@
 // The signature of an AND: the sum of the hashes of the different leads at its inputs' places, F left out. Equal sets have equal signatures.
 
-ghost use Rattle.std.specs.Prelude.{◌≡◌, ◌≤◌, ◌<◌, length};
-ghost use Rattle.closure.specs.Holding.{Blank, Low, Holds};
-ghost use Rattle.closure.specs.Matching.{Placed, hash_of, share_of, Summed, Signature, spread_of};
+ghost use Rattle.std.specs.Prelude.{◌≡◌, ◌<◌, length};
+ghost use Rattle.closure.specs.Holding.{Blank, Low};
+ghost use Rattle.closure.specs.Inputs.{HoldsInputs, SummedInputs};
+ghost use Rattle.closure.specs.Matching.{Placed, hash_of, share_of, Signature, spread_of};
 ghost use Rattle.closure.specs.KeptAnds.{KeyOf};
 
-use crate::held::release;
+use crate::inputs::Inputs;
 use crate::lead::lead_of;
-use crate::literals::{beginning, ending};
 
 // The hash of a lead, 0 for F. There are two primes, since the sums of a polynomial modulo one are equal for many different sets.
 fn hash_of(y: u32) -> u64
@@ -19,47 +19,11 @@ fn hash_of(y: u32) -> u64
 }
 
 // What the lead y adds to a signature: its hash, unless it is held.
-fn share(held: &[u8], y: u32) -> u64
+fn share(held: &[bool], y: u32) -> u64
     requires { y < length held.now }
     ensures { result ≡ share_of held.now y }
 {
-    if held[y as usize] == 1 {
-        return 0;
-    }
-    hash_of(y)
-}
-
-// Holds the leads of the places from b up to e, other than p, and sums the hashes of the different ones.
-fn hold_sum(codes: &[u32], old: &[u32], b: usize, e: usize, p: usize, held: &mut [u8]) -> u64
-    requires b_le_e { (b ≤ e) × (e ≤ length codes.now) }
-    requires low { Low codes.now old.now × Blank held.old }
-    ensures held { Holds codes.now old.now b e p held.new }
-    ensures sum { Summed codes.now old.now b e p result }
-{
-    let mut sum = 0;
-    let mut q = b;
-    while q < e {
-        if q != p {
-            let y = lead_of(old, codes[q]);
-            sum += share(held, y);
-            held[y as usize] = 1;
-        }
-        q += 1;
-    }
-    sum
-}
-
-// The signature of the AND at p.
-fn signature(codes: &[u32], old: &[u32], p: usize, held: &mut [u8]) -> u64
-    requires { Placed codes.now p × Low codes.now old.now × Blank held.old }
-    ensures signed { Signature codes.now old.now p result }
-    ensures blank { Blank held.new }
-{
-    let b = beginning(codes, p);
-    let e = ending(codes, p);
-    let sum = hold_sum(codes, old, b, e, p, held);
-    release(codes, old, b, e, p, held);
-    sum
+    if held[y as usize] { 0 } else { hash_of(y) }
 }
 
 // A signature's hash. Signatures alone that are equal modulo the number of buckets stay so when their sets lose or get the same lead.
@@ -69,11 +33,41 @@ fn spread_of(s: u64) -> u64
     (s % 4294967291) * (s % 4294967279) % 4503599627370449
 }
 
+impl Inputs<'_> {
+    // Holds their leads, and sums the hashes of the different ones.
+    fn hold_sum(&self, held: &mut [bool]) -> u64
+        requires { Blank held.old }
+        ensures held { HoldsInputs self.now held.new }
+        ensures sum { SummedInputs self.now result }
+    {
+        let mut sum = 0;
+        for q in self.start..self.end {
+            if q != self.output {
+                let y = lead_of(self.old, self.codes[q]);
+                sum += share(held, y);
+                held[y as usize] = true;
+            }
+        }
+        sum
+    }
+
+    // Their signature.
+    fn signature(&self, held: &mut [bool]) -> u64
+        requires { Blank held.old }
+        ensures signed { Signature self.now.codes.now self.now.old.now self.now.output result }
+        ensures blank { Blank held.new }
+    {
+        let sum = self.hold_sum(held);
+        self.release(held);
+        sum
+    }
+}
+
 // The key of the AND at p: the hash of its signature.
-pub fn key_of(codes: &[u32], old: &[u32], p: usize, held: &mut [u8]) -> u64
+pub fn key_of(codes: &[u32], old: &[u32], p: usize, held: &mut [bool]) -> u64
     requires { Placed codes.now p × Low codes.now old.now × Blank held.old }
     ensures key { KeyOf codes.now old.now p result }
     ensures blank { Blank held.new }
 {
-    spread_of(signature(codes, old, p, held))
+    spread_of(Inputs::of(codes, old, p).signature(held))
 }

@@ -19,18 +19,10 @@ impl Tally {
         requires { self.joins < 4294967295 }
         ensures { result ≡ fewer self }
     {
-        let joins = self.joins + 1;
-        if self.groups == 0 {
-            return Tally {
-                groups: 0,
-                joins: joins,
-                clash: self.clash,
-            };
-        }
         Tally {
-            groups: self.groups - 1,
-            joins: joins,
-            clash: self.clash,
+            groups: self.groups.saturating_sub(1),
+            joins: self.joins + 1,
+            ..self
         }
     }
 
@@ -41,24 +33,20 @@ impl Tally {
     {
         let x = lead_of(leads, a);
         let y = lead_of(leads, b);
-        if self.clash {
-            return self;
-        }
-        if x == y {
+        if self.clash || x == y {
             return self;
         }
         if x / 2 == y / 2 {
             return Tally {
-                groups: self.groups,
-                joins: self.joins,
                 clash: true,
+                ..self
             };
         }
         if x / 2 < y / 2 {
             replace_all(leads, y, x);
-            return self.fewer();
+        } else {
+            replace_all(leads, x, y);
         }
-        replace_all(leads, x, y);
         self.fewer()
     }
 }

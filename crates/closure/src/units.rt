@@ -9,7 +9,7 @@ ghost use Rattle.closure.specs.Worklist.{OnList, AreStarts};
 use crate::literals::first_other;
 use crate::tally::Tally;
 use clauses::place::clause_end;
-use clauses::sign::flipped;
+use clauses::sign::inverse;
 
 // Rule 1 for the clause from b up to its ending at e, whatever the marks are.
 fn by_unit(codes: &[u32], b: usize, e: usize, old: &[u32], new: &mut [u32], t: Tally) -> Tally
@@ -17,15 +17,13 @@ fn by_unit(codes: &[u32], b: usize, e: usize, old: &[u32], new: &mut [u32], t: T
     requires starts { Starts codes.now b × (e ≡ b + length (clause_at codes.now b)) }
     ensures { (marks : List ℕ) → Ready codes.now marks old.now new.old t → Went codes.now marks old.now new.old t new.new result × UnitJoined codes.now old.now new.new result b }
 {
-    let p = first_other(codes, old, b, e, e, 0);
-    if p == e {
+    let Some(p) = first_other(codes, old, b, e, e, 0) else {
         return t.join(new, 1, 0);
+    };
+    if first_other(codes, old, p + 1, e, e, 0).is_some() {
+        return t;
     }
-    let q = first_other(codes, old, p + 1, e, e, 0);
-    if q == e {
-        return t.join(new, codes[p], 1);
-    }
-    t
+    t.join(new, codes[p], 1)
 }
 
 // Rules 1 and 2 for the clause from b up to its ending at e.
@@ -45,7 +43,7 @@ fn by_clause(
 {
     let u = by_unit(codes, b, e, old, new, t);
     if marks[e] == 2 {
-        return u.join(new, codes[b], flipped(true, codes[b + 1]));
+        return u.join(new, codes[b], inverse(codes[b + 1]));
     }
     u
 }
@@ -65,11 +63,9 @@ pub fn by_clauses(
     ensures clauses { (b : ℕ) → OnList list.now b → ClauseJoined codes.now marks.now old.now new.new result b }
 {
     let mut t = tally;
-    let mut i = 0;
-    while i < list.len() {
-        let b = list[i] as usize;
+    for start in list {
+        let b = *start as usize;
         t = by_clause(codes, marks, b, clause_end(codes, b), old, new, t);
-        i += 1;
     }
     t
 }

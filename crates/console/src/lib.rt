@@ -2,24 +2,29 @@
 
 #![tactic(auto)]
 
-ghost use Rattle.std.specs.Prelude.{◌≡◌, ℕ, ◌≤◌, length, OnOk};
+ghost use Rattle.std.specs.Prelude.{◌≤◌, length, IfOk, OnOk};
 ghost use Rattle.std.specs.Io.KnownBytes.{Appends};
 ghost use Rattle.console.specs.Printed.{answer_text, printed, printed_aiger};
 
+use clauses::refusal::Refusal;
 use sheet::compare::{compare, compare_aiger};
-use sheet::write::Writing;
+use sheet::write::MIN_BUFFER;
 use std::io;
 use std::io::Write;
 use support::shown::print_refusal;
 
 // Prints the bytes that were written to a buffer, or why a text is turned away.
-fn print_written<W: Write>(out: &mut W, written: Writing, text: &[u8]) -> io::Result<()>
-    requires { (n : ℕ) → written ≡ Writing.Written n → n ≤ length text.now }
+fn print_written<W: Write>(
+    out: &mut W,
+    written: Result<usize, Refusal>,
+    text: &[u8],
+) -> io::Result<()>
+    requires { IfOk written (λ n. n ≤ length text.now) }
     ensures { OnOk result (Appends (W.contents out.old) (W.contents out.new) (answer_text written text.now)) }
 {
     match written {
-        Writing::Refused(r) => print_refusal(out, r),
-        Writing::Written(n) => out.write_all(&text[..n]),
+        Err(r) => print_refusal(out, r),
+        Ok(n) => out.write_all(&text[..n]),
     }
 }
 
@@ -27,7 +32,7 @@ fn print_written<W: Write>(out: &mut W, written: Writing, text: &[u8]) -> io::Re
 pub fn print_sheet<W: Write>(out: &mut W, input: &[u8]) -> io::Result<()>
     ensures { OnOk result (Appends (W.contents out.old) (W.contents out.new) (printed input.now)) }
 {
-    let mut text = [0u8; 16384];
+    let mut text = [0; MIN_BUFFER];
     let written = compare(input, &mut text);
     print_written(out, written, &text)
 }
@@ -36,7 +41,7 @@ pub fn print_sheet<W: Write>(out: &mut W, input: &[u8]) -> io::Result<()>
 pub fn print_aiger_sheet<W: Write>(out: &mut W, input: &[u8]) -> io::Result<()>
     ensures { OnOk result (Appends (W.contents out.old) (W.contents out.new) (printed_aiger input.now)) }
 {
-    let mut text = [0u8; 16384];
+    let mut text = [0; MIN_BUFFER];
     let written = compare_aiger(input, &mut text);
     print_written(out, written, &text)
 }

@@ -6,6 +6,7 @@ ghost use Rattle.std.specs.Prelude.{OnOk, IfSome, take};
 ghost use Rattle.std.specs.Io.KnownBytes.{Appends};
 ghost use Rattle.console.specs.Printed.{printed};
 
+use clauses::limits::MAX_TEXT;
 use console::print_sheet;
 use std::io;
 use std::io::{Read, Write};
@@ -15,7 +16,7 @@ use support::input::read_full;
 fn run<R: Read, W: Write>(from: &mut R, out: &mut W) -> io::Result<()>
     ensures { OnOk result (IfSome (R.remaining from.old) (λ xs. Appends (W.contents out.old) (W.contents out.new) (printed (take 65537 xs)))) }
 {
-    let mut input = [0u8; 65537];
+    let mut input = [0; MAX_TEXT + 1];
     let n = read_full(from, &mut input)?;
     print_sheet(out, &input[..n])
 }

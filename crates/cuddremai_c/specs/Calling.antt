@@ -1,18 +1,10 @@
 -- What the entry points for C answer: 0 for acceptance, else the refusal's number; and what the lent numbers then hold.
 -- Assumes nothing.
-use Rattle.std.specs.Prelude.{List, [], ◌∷◌, ℕ}
+use Rattle.std.specs.Prelude.{Result, Ok, Err, List, [], ◌∷◌, ℕ}
 use Rattle.clauses.specs.Refusal.{number_of, place_of}
 use Rattle.clauses.specs.declared.refusal.Refusal.{Refusal}
 use Rattle.clauses.specs.declared.reading.ListSize.{ListSize}
-use Rattle.clauses.specs.declared.reading.Reading.{Reading}
-use Rattle.clauses.specs.declared.reading.Reading.TheVariants as R
-use Rattle.clauses.specs.declared.printing.Printing.{Printing}
-use Rattle.clauses.specs.declared.printing.Printing.TheVariants as P
 use Rattle.closure.specs.declared.close.Summary.{Summary}
-use Rattle.closure.specs.declared.close.Closing.{Closing}
-use Rattle.closure.specs.declared.close.Closing.TheVariants as C
-use Rattle.sheet.specs.declared.write.Writing.{Writing}
-use Rattle.sheet.specs.declared.write.Writing.TheVariants as W
 use Rattle.rules.specs.declared.Verdict.{Verdict}
 use Rattle.rules.specs.declared.Verdict.TheVariants.{Contradiction, Settled, Unfinished}
 
@@ -30,18 +22,17 @@ abbrev pub accepted_call : {X : Type 0} → X → Call X
 accepted_call values = record { number = 0; place = 0; values = values }
 
 -- reading 'answers V, C and how many they are'
-abbrev pub read_call : Reading → ListSize → Call ListSize
-read_call (R.Refused r) before = refused_call r before
-read_call (R.Accepted s) before = accepted_call s
+abbrev pub read_call : Result ListSize Refusal → ListSize → Call ListSize
+read_call (Err r) before = refused_call r before
+read_call (Ok s) before = accepted_call s
 
 -- 'printing and the sheet answer the bytes written'
-abbrev pub print_call : Printing → ℕ → Call ℕ
-print_call (P.Refused r) before = refused_call r before
-print_call (P.Written n) before = accepted_call n
+abbrev pub print_call : Result ℕ Refusal → ℕ → Call ℕ
+print_call (Err r) before = refused_call r before
+print_call (Ok n) before = accepted_call n
 
-abbrev pub sheet_call : Writing → ℕ → Call ℕ
-sheet_call (W.Refused r) before = refused_call r before
-sheet_call (W.Written n) before = accepted_call n
+abbrev pub sheet_call : Result ℕ Refusal → ℕ → Call ℕ
+sheet_call = print_call
 
 -- contradiction, settled, unfinished; 0 is none of them
 abbrev pub verdict_number : Verdict → ℕ
@@ -53,6 +44,6 @@ verdict_number Unfinished = 3
 abbrev pub numbers : Summary → List ℕ
 numbers s = verdict_number s.verdict ∷ s.rounds ∷ s.ands ∷ s.xors ∷ s.ites ∷ s.groups ∷ []
 
-abbrev pub close_call : Closing → List ℕ → Call (List ℕ)
-close_call (C.Refused r) before = refused_call r before
-close_call (C.Accepted s) before = accepted_call (numbers s)
+abbrev pub close_call : Result Summary Refusal → List ℕ → Call (List ℕ)
+close_call (Err r) before = refused_call r before
+close_call (Ok s) before = accepted_call (numbers s)

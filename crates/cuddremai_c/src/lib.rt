@@ -4,6 +4,7 @@
 #![tactic(auto)]
 
 ghost use Rattle.std.specs.Prelude.{◌≡◌};
+ghost use Rattle.clauses.specs.Refusal.{number_of, place_of};
 ghost use Rattle.clauses.specs.Reading.{reading};
 ghost use Rattle.aiger.specs.Reading as Aiger;
 ghost use Rattle.clauses.specs.Printing.{printing};
@@ -12,13 +13,13 @@ ghost use Rattle.sheet.specs.Writing.{writing};
 ghost use Rattle.sheet.specs.Comparing.{comparing, comparing_aiger};
 ghost use Rattle.cuddremai_c.specs.Calling.{verdict_number, read_call, print_call, close_call, sheet_call};
 
-use clauses::printing::{Printing, print};
-use clauses::reading::{Reading, read};
-use clauses::refusal::number;
-use closure::close::{Closing, close};
+use clauses::printing::print;
+use clauses::reading::{ListSize, read};
+use clauses::refusal::Refusal;
+use closure::close::close;
 use rules::Verdict;
 use sheet::compare::{compare, compare_aiger};
-use sheet::write::{Writing, write};
+use sheet::write::write;
 
 // The number that stands for a verdict.
 fn verdict_number(verdict: Verdict) -> u32
@@ -31,9 +32,18 @@ fn verdict_number(verdict: Verdict) -> u32
     }
 }
 
+// Hands over a refusal: its place, and its number.
+fn hand_refusal(refusal: Refusal, place: &mut usize) -> u32
+    ensures number { result ≡ number_of refusal }
+    ensures place { place.new ≡ place_of refusal }
+{
+    *place = refusal.place();
+    refusal.number()
+}
+
 // Hands over what reading answers: V, C and the number of entries.
 fn hand_list(
-    list: Reading,
+    list: Result<ListSize, Refusal>,
     nets: &mut u32,
     clauses: &mut u32,
     entries: &mut usize,
@@ -43,11 +53,8 @@ fn hand_list(
         ≡ read_call list (record { nets = nets.old; clauses = clauses.old; entries = entries.old }) }
 {
     match list {
-        Reading::Refused(r) => {
-            *place = clauses::refusal::place(r);
-            number(r)
-        }
-        Reading::Accepted(s) => {
+        Err(r) => hand_refusal(r, place),
+        Ok(s) => {
             *nets = s.nets;
             *clauses = s.clauses;
             *entries = s.entries;
@@ -57,16 +64,13 @@ fn hand_list(
     }
 }
 
-// Hands over what writing a sheet answers: the number of bytes.
-fn hand_sheet(sheet: Writing, written: &mut usize, place: &mut usize) -> u32
-    ensures { record { number = result; place = place.new; values = written.new } ≡ sheet_call sheet written.old }
+// Hands over what printing and writing a sheet answer: the number of bytes.
+fn hand_bytes(answer: Result<usize, Refusal>, written: &mut usize, place: &mut usize) -> u32
+    ensures { record { number = result; place = place.new; values = written.new } ≡ print_call answer written.old }
 {
-    match sheet {
-        Writing::Refused(r) => {
-            *place = clauses::refusal::place(r);
-            number(r)
-        }
-        Writing::Written(n) => {
+    match answer {
+        Err(r) => hand_refusal(r, place),
+        Ok(n) => {
             *written = n;
             *place = 0;
             0
@@ -124,17 +128,8 @@ pub extern "C" fn cuddremai_print(
         ≡ print_call (printing nets clauses row.now text.old).result written.old }
     ensures text { text.new ≡ (printing nets clauses row.now text.old).buffer }
 {
-    match print(nets, clauses, row, text) {
-        Printing::Refused(r) => {
-            *place = clauses::refusal::place(r);
-            number(r)
-        }
-        Printing::Written(n) => {
-            *written = n;
-            *place = 0;
-            0
-        }
-    }
+    let printed = print(nets, clauses, row, text);
+    hand_bytes(printed, written, place)
 }
 
 // Closes a clause list under a round limit; verdict, rounds, ANDs, XORs, ITEs and groups.
@@ -155,14 +150,10 @@ pub extern "C" fn cuddremai_close(
     ensures work { work.new ≡ (closing nets clauses row.now limit leads.old work.old).work }
 {
     match close(nets, clauses, row, limit, leads, work) {
-        Closing::Refused(r) => {
-            *place = clauses::refusal::place(r);
-            number(r)
-        }
-        Closing::Accepted(s) => {
-            let verdict = s.verdict;
+        Err(r) => hand_refusal(r, place),
+        Ok(s) => {
             *summary = [
-                verdict_number(verdict),
+                verdict_number(s.verdict),
                 s.rounds,
                 s.ands,
                 s.xors,
@@ -195,7 +186,7 @@ pub extern "C" fn cuddremai_sheet(
     ensures text { text.new ≡ (writing nets clauses row.now limit leads.old work.old text.old).text }
 {
     let sheet = write(nets, clauses, row, limit, leads, work, text);
-    hand_sheet(sheet, written, place)
+    hand_bytes(sheet, written, place)
 }
 
 // From a DIMACS text to its sheet, under round limit V + 1; the number of bytes.
@@ -211,7 +202,7 @@ pub extern "C" fn cuddremai_compare(
     ensures text { text.new ≡ (comparing input.now text.old).text }
 {
     let sheet = compare(input, text);
-    hand_sheet(sheet, written, place)
+    hand_bytes(sheet, written, place)
 }
 
 // From an AIGER text to its sheet, under round limit V + 1; the number of bytes.
@@ -227,5 +218,5 @@ pub extern "C" fn cuddremai_compare_aiger(
     ensures text { text.new ≡ (comparing_aiger input.now text.old).text }
 {
     let sheet = compare_aiger(input, text);
-    hand_sheet(sheet, written, place)
+    hand_bytes(sheet, written, place)
 }

@@ -8,19 +8,12 @@ ghost use Rattle.clauses.specs.Limit.{max_entries};
 ghost use Rattle.clauses.specs.Code.{code_of};
 ghost use Rattle.clauses.specs.Row.{SmallEntries};
 
-use clauses::reading::{Reading, read};
+use clauses::limits::{MAX_ENTRIES, MAX_NETS};
+use clauses::reading::read;
 use clauses::tally::tally_row;
 use gates::finder::find_gates;
 use std::io;
 use std::io::Write;
-
-fn show<W: Write>(out: &mut W, bytes: &[u8]) -> io::Result<()> {
-    out.write_all(bytes)
-}
-
-fn show_number<W: Write>(out: &mut W, n: u32) -> io::Result<()> {
-    write!(out, "{n}")
-}
 
 // The three counts of a row.
 fn show_counts<W: Write>(out: &mut W, row: &[i32]) -> io::Result<()>
@@ -28,24 +21,19 @@ fn show_counts<W: Write>(out: &mut W, row: &[i32]) -> io::Result<()>
     requires small_entries { SmallEntries row.now }
     requires row_value { get_or (map code_of row.now) (length row.now - 1) 0 ≡ 0 }
 {
-    let mut codes = [0u32; 16384];
-    let mut marks = [0u8; 16384];
+    let mut codes = [0u32; MAX_ENTRIES];
+    let mut marks = [0u8; MAX_ENTRIES];
     let found = find_gates(row, &mut codes, &mut marks);
     let counts = found.counts;
-    show_number(out, counts.ands)?;
-    show(out, b",")?;
-    show_number(out, counts.xors)?;
-    show(out, b",")?;
-    show_number(out, counts.ites)?;
-    show(out, b"\n")
+    writeln!(out, "{},{},{}", counts.ands, counts.xors, counts.ites)
 }
 
 // .. of a row that the finder takes.
 fn show_row<W: Write>(out: &mut W, row: &[i32]) -> io::Result<()> {
-    if 16384 < row.len() {
+    if MAX_ENTRIES < row.len() {
         return Ok(());
     }
-    let t = tally_row(1024, row);
+    let t = tally_row(MAX_NETS, row);
     if t.within < row.len() {
         return Ok(());
     }
@@ -55,22 +43,16 @@ fn show_row<W: Write>(out: &mut W, row: &[i32]) -> io::Result<()> {
     Ok(())
 }
 
-// .. of the first entries of a row.
-fn show_entries<W: Write>(out: &mut W, row: &[i32], n: usize) -> io::Result<()> {
-    if n <= row.len() {
-        show_row(out, &row[..n])?;
-    }
-    Ok(())
-}
-
 // .. of a text.
-fn counts<W: Write>(out: &mut W, name: &[u8], text: &[u8]) -> io::Result<()> {
-    let mut row = [0i32; 16384];
-    show(out, name)?;
-    show(out, b": ")?;
+fn counts<W: Write>(out: &mut W, name: &str, text: &[u8]) -> io::Result<()> {
+    let mut row = [0i32; MAX_ENTRIES];
+    write!(out, "{name}: ")?;
     match read(text, &mut row) {
-        Reading::Refused(_) => show(out, b"refused\n"),
-        Reading::Accepted(s) => show_entries(out, &row, s.entries),
+        Err(_) => writeln!(out, "refused"),
+        Ok(s) => match row.get(..s.entries) {
+            Some(entries) => show_row(out, entries),
+            None => Ok(()),
+        },
     }
 }
 
@@ -78,22 +60,22 @@ fn counts<W: Write>(out: &mut W, name: &[u8], text: &[u8]) -> io::Result<()> {
 fn xor_cases<W: Write>(out: &mut W) -> io::Result<()> {
     counts(
         out,
-        b"XOR over five nets",
+        "XOR over five nets",
         b"p cnf 5 16\n1 2 3 4 5 0 1 2 3 -4 -5 0 1 2 -3 4 -5 0 1 2 -3 -4 5 0 1 -2 3 4 -5 0 1 -2 3 -4 5 0 1 -2 -3 4 5 0 1 -2 -3 -4 -5 0 -1 2 3 4 -5 0 -1 2 3 -4 5 0 -1 2 -3 4 5 0 -1 2 -3 -4 -5 0 -1 -2 3 4 5 0 -1 -2 3 -4 -5 0 -1 -2 -3 4 -5 0 -1 -2 -3 -4 5 0\n",
     )?;
     counts(
         out,
-        b"XOR over six nets",
+        "XOR over six nets",
         b"p cnf 6 32\n1 2 3 4 5 6 0 1 2 3 4 -5 -6 0 1 2 3 -4 5 -6 0 1 2 3 -4 -5 6 0 1 2 -3 4 5 -6 0 1 2 -3 4 -5 6 0 1 2 -3 -4 5 6 0 1 2 -3 -4 -5 -6 0 1 -2 3 4 5 -6 0 1 -2 3 4 -5 6 0 1 -2 3 -4 5 6 0 1 -2 3 -4 -5 -6 0 1 -2 -3 4 5 6 0 1 -2 -3 4 -5 -6 0 1 -2 -3 -4 5 -6 0 1 -2 -3 -4 -5 6 0 -1 2 3 4 5 -6 0 -1 2 3 4 -5 6 0 -1 2 3 -4 5 6 0 -1 2 3 -4 -5 -6 0 -1 2 -3 4 5 6 0 -1 2 -3 4 -5 -6 0 -1 2 -3 -4 5 -6 0 -1 2 -3 -4 -5 6 0 -1 -2 3 4 5 6 0 -1 -2 3 4 -5 -6 0 -1 -2 3 -4 5 -6 0 -1 -2 3 -4 -5 6 0 -1 -2 -3 4 5 -6 0 -1 -2 -3 4 -5 6 0 -1 -2 -3 -4 5 6 0 -1 -2 -3 -4 -5 -6 0\n",
     )?;
     counts(
         out,
-        b"both sums over three nets",
+        "both sums over three nets",
         b"p cnf 3 8\n1 2 3 0 1 -2 -3 0 -1 2 -3 0 -1 -2 3 0 1 2 -3 0 1 -2 3 0 -1 2 3 0 -1 -2 -3 0\n",
     )?;
     counts(
         out,
-        b"XOR with one sign pattern missing",
+        "XOR with one sign pattern missing",
         b"p cnf 4 7\n1 2 3 4 0 1 2 -3 -4 0 1 -2 3 -4 0 1 -2 -3 4 0 -1 2 3 -4 0 -1 2 -3 4 0 -1 -2 -3 -4 0\n",
     )
 }
@@ -102,27 +84,27 @@ fn xor_cases<W: Write>(out: &mut W) -> io::Result<()> {
 fn and_cases<W: Write>(out: &mut W) -> io::Result<()> {
     counts(
         out,
-        b"AND with one input doubled",
+        "AND with one input doubled",
         b"p cnf 3 3\n3 -1 -2 0 -3 1 0 -3 1 0\n",
     )?;
     counts(
         out,
-        b"AND with the other input doubled",
+        "AND with the other input doubled",
         b"p cnf 3 3\n3 -1 -2 0 -3 2 0 -3 2 0\n",
     )?;
     counts(
         out,
-        b"one clause that gives three ANDs",
+        "one clause that gives three ANDs",
         b"p cnf 3 5\n-3 1 0 -3 2 0 3 -1 -2 0 1 2 0 -1 -2 0\n",
     )?;
     counts(
         out,
-        b"AND whose clause is repeated",
+        "AND whose clause is repeated",
         b"p cnf 3 4\n-3 1 0 -3 2 0 3 -1 -2 0 -2 3 -1 3 0\n",
     )?;
     counts(
         out,
-        b"ignored clauses",
+        "ignored clauses",
         b"p cnf 2 3\n1 -1 2 0 -1 1 0 -1 -2 0\n",
     )
 }
@@ -131,22 +113,22 @@ fn and_cases<W: Write>(out: &mut W) -> io::Result<()> {
 fn other_cases<W: Write>(out: &mut W) -> io::Result<()> {
     counts(
         out,
-        b"two ANDs",
+        "two ANDs",
         b"p cnf 4 6\n-3 1 0 -3 2 0 3 -1 -2 0 -4 1 0 -4 2 0 4 -1 -2 0\n",
     )?;
     counts(
         out,
-        b"two ANDs and an XOR",
+        "two ANDs and an XOR",
         b"p cnf 5 11\n-3 1 0 -3 2 0 3 -1 -2 0 -4 1 0 -4 2 0 4 -1 -2 0 -5 3 4 0 -5 -3 -4 0 5 -3 4 0 5 3 -4 0 5 0\n",
     )?;
     counts(
         out,
-        b"two multiplexers",
+        "two multiplexers",
         b"p cnf 5 8\n-1 -4 2 0 -1 4 -2 0 1 -4 3 0 1 4 -3 0 -1 -5 -2 0 -1 5 2 0 1 -5 -3 0 1 5 3 0\n",
     )?;
     counts(
         out,
-        b"a multiplexer with both data pins on one net",
+        "a multiplexer with both data pins on one net",
         b"p cnf 3 4\n-1 -3 2 0 -1 3 -2 0 1 -3 2 0 1 3 -2 0\n",
     )
 }

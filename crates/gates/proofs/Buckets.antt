@@ -39,6 +39,9 @@ pub bucket_small : (c : List ℕ) → bucket_of c < buckets
 unfolding bucket_of
 bucket_small c = omega arith
 
+pub bucket_below : {h : ℕ} (c : List ℕ) → h ≡ bucket_of c → h < buckets
+bucket_below {h} c e = omega (arith, e, bucket_small c)
+
 -- The sum so far, and that of the rest
 
 pub share_small : (x : ℕ) → share x ≤ 65535 * 131071

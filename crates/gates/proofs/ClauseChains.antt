@@ -11,6 +11,7 @@ use lib.Dec.{eqb}
 use lib.ListN.{length, get_or, set, replicate, length-set, get_or-replicate}
 use lib.Seq.{get_or-set_same, get_or-set_other}
 use borrow.Author.Tests.{eq-eqb, eqb-true}
+use borrow.Table.Steps.{cases}
 use Rattle.clauses.specs.Clause.{Same}
 use Rattle.clauses.specs.Listing.{same_set}
 use Rattle.clauses.specs.Row.{clause_at, Starts}
@@ -37,6 +38,9 @@ start_false row b e s = go s.behind
     go : (b ≡ 0) ⊎ (get_or row (b - 1) 0 ≡ 0) → ⊥
     go (inl z) = true≢false (sym (or_left (eqb (get_or row (b - 1) 0) 0) (eq-eqb b 0 z)) ∙ e)
     go (inr z) = true≢false (sym (or_right (eqb b 0) (eq-eqb (get_or row (b - 1) 0) 0 z)) ∙ e)
+
+pub start_is : (row : List ℕ) (b : ℕ) → Starts row b → is_start row b ≡ true
+start_is row b s = cases (is_start row b) (λ t. t) (λ f. absurd (start_false row b f s))
 
 -- The chains are made from the last clause to the first
 
@@ -99,7 +103,7 @@ module _ {row : List ℕ} {size : ℕ} where
         head : (g : ℕ) → g < buckets → Dec (g ≡ h) → NextIn row g b (get_or (set (set index (buckets + b) (get_or index h 0)) h b) g 0)
         head g l (yes e) =
             rw (e, get_or-set_same (set index (buckets + b) (get_or index h 0)) h b 0 (omega (arith, small, size_of)))
-            (record { low = omega arith; high = omega (arith, k.inside); here = λ m. (s, sym i); none = λ p m o u. absurd (omega arith) })
+            (record { low = omega arith; high = omega (arith, k.inside); here = λ m. (start_is row b s, sym i); none = λ p m o u. absurd (omega arith) })
         head g l (no n) =
             rw (get_or-set_other (set index (buckets + b) (get_or index h 0)) h g b 0 n, get_or-set_other index (buckets + b) g (get_or index h 0) 0 (omega arith))
             (lower g (get_or index g 0) (k.head g l) (λ u e. n (sym e ∙ sym i)))
@@ -122,30 +126,23 @@ pub record Searching (row q : List ℕ) (b : ℕ) : Type 0 where
   pub passed : Passed row q b
   pub bucket : b < length row → bucket_of (clause_at row b) ≡ bucket_of q
 
-module _ {row index q : List ℕ} (x : Indexed row index) where
-  pub searching_first : {h : ℕ} → h ≡ bucket_of q → Searching row q (get_or index h 0)
-  searching_first {h} e =
-      let n = x.head h (omega (arith, e, bucket_small q)) in
+module _ {row q : List ℕ} where
+  pub searching_first : {h j : ℕ} → NextIn row h 0 j → h ≡ bucket_of q → Searching row q j
+  searching_first n e =
       record {
-        passed = record { start = λ l. (n.here l).0; none = λ p l s t. n.none p (omega arith) l s (sym (same_bucket q (clause_at row p) t) ∙ sym e) };
+        passed = record { start = λ l. start_true row _ l (n.here l).0; none = λ p l s t. n.none p (omega arith) l s (sym (same_bucket q (clause_at row p) t) ∙ sym e) };
         bucket = λ l. (n.here l).1 ∙ e;
       }
 
-  module _ {b : ℕ} (k : Searching row q b) (l : b < length row) where
-    link : NextIn row (bucket_of (clause_at row b)) (b + 1) (get_or index (buckets + b) 0)
-    link = x.next b (k.passed.start l)
-
-    pub searching_next : same_set q (clause_at row b) ≡ false → Searching row q (get_or index (buckets + b) 0)
+  module _ {b j : ℕ} (n : NextIn row (bucket_of (clause_at row b)) (b + 1) j) (k : Searching row q b) (l : b < length row) where
+    pub searching_next : same_set q (clause_at row b) ≡ false → Searching row q j
     searching_next e =
         record {
-          passed = record { start = λ m. (link.here m).0; none = λ p m s. go p m s (dec_lt p b) (ℕ_discrete p b) };
-          bucket = λ m. (link.here m).1 ∙ k.bucket l;
+          passed = record { start = λ m. start_true row j m (n.here m).0; none = λ p m s. go p m s (dec_lt p b) (ℕ_discrete p b) };
+          bucket = λ m. (n.here m).1 ∙ k.bucket l;
         }
       where
-        go : (p : ℕ) → p < get_or index (buckets + b) 0 → Starts row p → Dec (p < b) → Dec (p ≡ b) → ¬ Same q (clause_at row p)
+        go : (p : ℕ) → p < j → Starts row p → Dec (p < b) → Dec (p ≡ b) → ¬ Same q (clause_at row p)
         go p m s (yes o) d t = k.passed.none p o s t
-        go p m s (no o) (yes i) t = true≢false (sym (is_same q (clause_at row b) (subst (λ (j : ℕ). Same q (clause_at row j)) i t)) ∙ e)
-        go p m s (no o) (no i) t = link.none p (omega arith) m s (sym (same_bucket q (clause_at row p) t) ∙ sym (k.bucket l))
-
-    pub searching_falls : length row - get_or index (buckets + b) 0 < length row - b
-    searching_falls = omega (arith, link.low)
+        go p m s (no o) (yes i) t = true≢false (sym (is_same q (clause_at row b) (subst (λ (i : ℕ). Same q (clause_at row i)) i t)) ∙ e)
+        go p m s (no o) (no i) t = n.none p (omega arith) m s (sym (same_bucket q (clause_at row p) t) ∙ sym (k.bucket l))

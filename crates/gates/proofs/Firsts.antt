@@ -12,8 +12,7 @@ use Rattle.clauses.specs.Listing.{same_set}
 use Rattle.clauses.specs.Row.{clause_at, Starts}
 use Rattle.clauses.proofs.Clauses.{same_is, same_refl, same_sym, same_trans}
 use Rattle.clauses.proofs.Rows.{listed_starts}
-use Rattle.gates.specs.declared.search.Place.{Place}
-use Rattle.gates.specs.declared.search.Place.TheVariants.{At, Nothing}
+use Rattle.std.proofs.Common.{Option, Some, None}
 use Rattle.gates.specs.Search.{first_place}
 use Rattle.gates.specs.Mark.{is_at, is_first}
 use Rattle.gates.proofs.Places.{Passed, First, place_first, place_nothing, first_only, first-place}
@@ -26,9 +25,9 @@ module _ (row : List ℕ) where
   unfolding is_first is_at
   first_is b h = go (first_place row (clause_at row b)) refl
     where
-      go : (r : Place) → first_place row (clause_at row b) ≡ r → First row (clause_at row b) b
-      go (At a) e = place_first row (clause_at row b) (e ∙ ap At (eqb-true a b (rw e at h)))
-      go Nothing e = absurd (false≢true (rw e at h))
+      go : (r : Option ℕ) → first_place row (clause_at row b) ≡ r → First row (clause_at row b) b
+      go (Some a) e = place_first row (clause_at row b) (e ∙ ap Some (eqb-true a b (rw e at h)))
+      go None e = absurd (false≢true (rw e at h))
 
   pub is-first : (b : ℕ) → First row (clause_at row b) b → is_first row b ≡ true
   unfolding is_first is_at
@@ -56,10 +55,10 @@ module _ (row : List ℕ) where
   pub first_of : {c : List ℕ} → Present (clauses_in row) c → FirstOf c
   first_of {c} h = go (first_place row c) refl
     where
-      go : (r : Place) → first_place row c ≡ r → FirstOf c
-      go (At b) e =
+      go : (r : Option ℕ) → first_place row c ≡ r → FirstOf c
+      go (Some b) e =
           let f = place_first row c e in
           record { place = b; start = f.start; first = is-first b (first_same f.same f); same = f.same }
-      go Nothing e =
+      go None e =
           let s = listed_starts row h.found h.listed in
           absurd (place_nothing row c e s.place s.start (subst⁻¹ (Same c) s.is h.same))

@@ -1,9 +1,9 @@
 -- Halves of ITEs at their places.
 -- Assumes nothing.
 use mathlib.Core.Path.{◌≡◌, refl, ◌∙◌, ap, ap₂}
-use mathlib.Core.Bool.{true, false, cond, ◌&&◌}
+use mathlib.Core.Bool.{Bool, true, false, cond, ◌&&◌}
 use mathlib.Core.List.{List, [], ◌∷◌, map}
-use Prim.Native.Nat.{ℕ, zero, suc, ◌+◌, ◌-◌, ◌*◌, ◌/◌, ◌%◌, ◌^◌, ◌<◌}
+use Prim.Native.Nat.{ℕ, zero, suc, ◌+◌, ◌-◌, ◌*◌, ◌/◌, ◌%◌, ◌^◌, ◌<◌, ◌≤◌}
 use native.Mathlib.Omega.{arith}
 use borrow.Author.Tests.{eq-eqb, ne_eqb}
 use borrow.Table.Steps.{cases}
@@ -18,6 +18,7 @@ use Rattle.clauses.specs.Row.{clause_at, start_of, around}
 use Rattle.clauses.proofs.Clauses.{same_present}
 use Rattle.clauses.proofs.Lists.{and_both, keep_yes, keep_no, each_length}
 use Rattle.clauses.proofs.Around.{around_in}
+use Rattle.gates.specs.Normal.{Normal, max_code}
 use Rattle.gates.specs.Mark.{is_first}
 use Rattle.gates.specs.Ites.{in_three, other, is_paired, Half, halves_at, half, halves, all_halves, output, side, is_mate, mates, is_side, side_mark, is_plain_half, pairs_of}
 use Rattle.gates.specs.Mask.{masked}
@@ -91,6 +92,11 @@ module _ (row : List ℕ) where
       let t = in_three_is row p a.0 in
       rw (a.0, a.1) (same_present (clauses_in row) _ _ (masked_others row (start_of row p) p t.clause t.low t.high))
 
+  pub other_small : Normal row → (p : ℕ) (a : Bool) → other row p a ≤ max_code
+  unfolding other
+  other_small n p false = n.small _
+  other_small n p true = n.small _
+
   -- Pairs of halves
 
   pub pairs_none : length (pairs_of row []) ≡ 0
@@ -113,23 +119,23 @@ module _ (row : List ℕ) where
   unfolding side_mark is_side
   no_mark p t = rw t
 
-  module _ (p next after : ℕ) (t : is_paired row p ≡ true) (o : Others p next after) (n m : ℕ)
-      (e : n ≡ length (keep (is_mate row (negate (get_or row p 0)) (get_or row next 0) (get_or row after 0)) (all_halves row)))
-      (f : m ≡ length (keep (is_mate row (negate (get_or row p 0)) (get_or row after 0) (get_or row next 0)) (all_halves row))) where
+  module _ (p y z : ℕ) (t : is_paired row p ≡ true) (y_is : y ≡ other row p false) (z_is : z ≡ other row p true) (n m : ℕ)
+      (e : n ≡ length (keep (is_mate row (negate (get_or row p 0)) y z) (all_halves row)))
+      (f : m ≡ length (keep (is_mate row (negate (get_or row p 0)) z y) (all_halves row))) where
     mates_next : n ≡ length (mates row (record { place = p; after = false }))
     unfolding mates output side
-    mates_next = rw (← o.next_is, ← o.after_is) e
+    mates_next = rw (← y_is, ← z_is) e
 
     mates_after : m ≡ length (mates row (record { place = p; after = true }))
     unfolding mates output side
-    mates_after = rw (← o.next_is, ← o.after_is) f
+    mates_after = rw (← y_is, ← z_is) f
 
     pub mark_by : cond (ltb 0 n) 2 0 + cond (ltb 0 m) 4 0 ≡ side_mark row p
     unfolding side_mark is_side
     mark_by = rw (t, mates_next, mates_after)
 
-    pub pairs_by : cond (is_inverse (get_or row p 0) && is_inverse (get_or row next 0)) n 0 + cond (is_inverse (get_or row p 0) && is_inverse (get_or row after 0)) m 0 ≡ length (pairs_of row (halves_at p))
+    pub pairs_by : cond (is_inverse (get_or row p 0) && is_inverse y) n 0 + cond (is_inverse (get_or row p 0) && is_inverse z) m 0 ≡ length (pairs_of row (halves_at p))
     unfolding halves_at is_plain_half output
     pairs_by =
-        rw (pairs_one (record { place = p; after = false }) (record { place = p; after = true } ∷ []), pairs_one (record { place = p; after = true }) [], t, mates_next, mates_after, o.next_is, o.after_is)
+        rw (pairs_one (record { place = p; after = false }) (record { place = p; after = true } ∷ []), pairs_one (record { place = p; after = true }) [], t, mates_next, mates_after, y_is, z_is)
         (omega (arith, pairs_none))

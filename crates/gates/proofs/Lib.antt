@@ -14,6 +14,7 @@ pub mod Normalising
 pub mod NormalForm
 pub mod Buckets
 pub mod ClauseChains
+pub mod ClauseParts
 pub mod Every
 pub mod Firsts
 pub mod HowMany
@@ -33,6 +34,8 @@ pub mod IteMarks
 pub mod Sizes
 pub mod MateCounts
 pub mod SideMarks
+pub mod PlaceParts
+pub mod Chaining
 pub mod Pairs
 pub mod Marked
 pub mod Found

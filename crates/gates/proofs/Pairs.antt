@@ -1,6 +1,6 @@
 -- The marks of the clauses of two literals whose inverses are a clause too.
 -- Assumes nothing.
-use mathlib.Core.Path.{◌≡◌, refl, sym, ◌∙◌, ap}
+use mathlib.Core.Path.{◌≡◌, sym, ◌∙◌, ap}
 use mathlib.Core.Logic.{◌≢◌, ◌↔◌}
 use mathlib.Core.Bool.{true, false, cond}
 use mathlib.Core.List.Memᴰ
@@ -51,9 +51,6 @@ module _ (row : List ℕ) where
       rw (eq-eqb (get_or row (b + length (clause_at row b)) 0) 0 (clause_ended row b), start_only row b (b + length (clause_at row b)) s (omega arith) (omega arith) h)
 
 -- As they are written
-
-pub pairing_none : (row marks : List ℕ) → Pairing row marks marks 0
-pairing_none row marks = record { size = refl; written = λ q l. absurd (omega arith); rest = λ q l. refl }
 
 module _ {row before marks : List ℕ} {b : ℕ} (s : Starts row b) (inside : b + length (clause_at row b) < length row) (k : Pairing row before marks b) where
   -- the marks before the end of the clause

@@ -13,8 +13,8 @@ use Rattle.clauses.specs.Listing.{same_set, present}
 use Rattle.clauses.specs.Row.{clause_at, Starts}
 use Rattle.clauses.proofs.Clauses.{same_is, is_same, present_is, is_present}
 use Rattle.clauses.proofs.Rows.{starts_first, starts_next, starts_apart, clauses_from, clauses_end, listed_starts, starts_listed}
-use Rattle.gates.specs.declared.search.Place.{Place}
-use Rattle.gates.specs.declared.search.Place.TheVariants.{At, Nothing}
+use Rattle.std.specs.Option.{is_some}
+use Rattle.std.proofs.Common.{Option, Some, None}
 use Rattle.gates.specs.Search.{place_in, first_place, Proper}
 
 module _ (row q : List ℕ) where
@@ -60,7 +60,7 @@ module _ (row q : List ℕ) where
         go (no n) = let z : ◌≡◌ {A = ℕ} 0 1 = cc (clauses_end row b (omega arith)) in absurd (omega arith)
         go (yes h) = (h, cc (clauses_from row b h), cc (clauses_from row b h))
 
-  at_from : (cs : List (List ℕ)) (b : ℕ) → Passed row q b → clauses_in (drop b row) ≡ cs → (p : ℕ) → place_in q cs b ≡ At p → First row q p
+  at_from : (cs : List (List ℕ)) (b : ℕ) → Passed row q b → clauses_in (drop b row) ≡ cs → (p : ℕ) → place_in q cs b ≡ Some p → First row q p
   unfolding place_in
   at_from [] b k e p h = let z : ◌≡◌ {A = ℕ} 0 1 = cc in absurd (omega arith)
   at_from (c ∷ cs) b k e p h =
@@ -71,7 +71,7 @@ module _ (row q : List ℕ) where
       here : (b < length row) × (clause_at row b ≡ c) × (clauses_in (drop (b + length (clause_at row b) + 1) row) ≡ cs) → same_set q c ≡ true → b ≡ p → First row q p
       here m t i = rw (← i) (record { start = k.start m.0; same = same_is q (clause_at row b) (rw m.1 t); least = k.none })
 
-  nothing_from : (cs : List (List ℕ)) (b : ℕ) → Passed row q b → clauses_in (drop b row) ≡ cs → place_in q cs b ≡ Nothing → (p : ℕ) → Starts row p → ¬ Same q (clause_at row p)
+  nothing_from : (cs : List (List ℕ)) (b : ℕ) → Passed row q b → clauses_in (drop b row) ≡ cs → place_in q cs b ≡ None → (p : ℕ) → Starts row p → ¬ Same q (clause_at row p)
   unfolding place_in
   nothing_from [] b k e h p s = k.none p (omega (arith, empty_from b [] e, s.inside)) s
   nothing_from (c ∷ cs) b k e h p s =
@@ -79,11 +79,11 @@ module _ (row q : List ℕ) where
       cases (same_set q c) (λ t. let g = rw (t, place_in) at h in let z : ◌≡◌ {A = ℕ} 0 1 = cc in absurd (omega arith))
       (λ t. nothing_from cs (b + length (clause_at row b) + 1) (passed_next k (differ b (rw m.1 t))) m.2 (rw m.1 (rw (t, place_in) at h)) p s)
 
-  pub place_first : {b : ℕ} → first_place row q ≡ At b → First row q b
+  pub place_first : {b : ℕ} → first_place row q ≡ Some b → First row q b
   unfolding first_place
   place_first {b} e = at_from (clauses_in row) 0 passed_first refl b e
 
-  pub place_nothing : first_place row q ≡ Nothing → (p : ℕ) → Starts row p → ¬ Same q (clause_at row p)
+  pub place_nothing : first_place row q ≡ None → (p : ℕ) → Starts row p → ¬ Same q (clause_at row p)
   unfolding first_place
   place_nothing e = nothing_from (clauses_in row) 0 passed_first refl e
 
@@ -95,29 +95,29 @@ module _ (row q : List ℕ) where
       go (no l) (yes m) = absurd (f.least b m g.start g.same)
       go (no l) (no m) = omega arith
 
-  pub first-place : {b : ℕ} → First row q b → first_place row q ≡ At b
+  pub first-place : {b : ℕ} → First row q b → first_place row q ≡ Some b
   first-place {b} f = go (first_place row q) refl
     where
-      go : (r : Place) → first_place row q ≡ r → r ≡ At b
-      go (At a) e = ap At (first_only (place_first e) f)
-      go Nothing e = absurd (place_nothing e b f.start f.same)
+      go : (r : Option ℕ) → first_place row q ≡ r → r ≡ Some b
+      go (Some a) e = ap Some (first_only (place_first e) f)
+      go None e = absurd (place_nothing e b f.start f.same)
 
-  pub nothing_place : ((p : ℕ) → Starts row p → ¬ Same q (clause_at row p)) → first_place row q ≡ Nothing
+  pub nothing_place : ((p : ℕ) → Starts row p → ¬ Same q (clause_at row p)) → first_place row q ≡ None
   nothing_place n = go (first_place row q) refl
     where
-      go : (r : Place) → first_place row q ≡ r → r ≡ Nothing
-      go (At a) e = let f = place_first e in absurd (n a f.start f.same)
-      go Nothing e = refl
+      go : (r : Option ℕ) → first_place row q ≡ r → r ≡ None
+      go (Some a) e = let f = place_first e in absurd (n a f.start f.same)
+      go None e = refl
 
   -- a clause is found exactly where it is present
 
-  pub place_present : Proper row → {b : ℕ} → first_place row q ≡ At b → present (clauses_in row) q ≡ true
+  place_present : Proper row → {b : ℕ} → first_place row q ≡ Some b → present (clauses_in row) q ≡ true
   place_present h {b} e =
       let f = place_first e in
       let m = starts_listed row b f.start in
       is_present (clauses_in row) q (record { found = clause_at row b; listed = m; proper = h (clause_at row b) m; same = f.same })
 
-  pub nothing_present : first_place row q ≡ Nothing → present (clauses_in row) q ≡ false
+  pub nothing_present : first_place row q ≡ None → present (clauses_in row) q ≡ false
   nothing_present e = cases (present (clauses_in row) q) (λ t. absurd (never (present_is (clauses_in row) q t))) (λ t. t)
     where
       never : Present (clauses_in row) q → ⊥
@@ -125,18 +125,20 @@ module _ (row q : List ℕ) where
           let s = listed_starts row p.found p.listed in
           place_nothing e s.place s.start (subst⁻¹ (λ (c : List ℕ). Same q c) s.is p.same)
 
+  pub found_present : Proper row → is_some (first_place row q) ≡ present (clauses_in row) q
+  found_present h = go (first_place row q) refl
+    where
+      go : (r : Option ℕ) → first_place row q ≡ r → is_some (first_place row q) ≡ present (clauses_in row) q
+      go (Some b) e = ap is_some e ∙ sym (place_present h e)
+      go None e = ap is_some e ∙ sym (nothing_present e)
+
 -- Where a search ends
 
--- it has found the row's length, with no clause left, or the place of a clause
-pub data Ended (row q : List ℕ) (p : ℕ) : Type 0 where
-  nowhere : {b : ℕ} → Passed row q b → length row ≤ b → p ≡ length row → Ended row q p
-  there : Passed row q p → p < length row → same_set q (clause_at row p) ≡ true → Ended row q p
+module _ {row q : List ℕ} {b : ℕ} (k : Passed row q b) where
+  -- with no clause left
+  pub passed_all : length row ≤ b → None ≡ first_place row q
+  passed_all l = sym (nothing_place row q (λ i s. k.none i (omega (arith, s.inside)) s))
 
-module _ {row q : List ℕ} {p : ℕ} where
-  pub ended_at : Ended row q p → p < length row → At p ≡ first_place row q
-  ended_at (nowhere k l e) h = absurd (omega arith)
-  ended_at (there k l e) h = sym (first-place row q (record { start = k.start l; same = same_is q (clause_at row p) e; least = k.none }))
-
-  pub ended_nothing : Ended row q p → length row ≤ p → Nothing ≡ first_place row q
-  ended_nothing (nowhere k l e) h = sym (nothing_place row q (λ i s. k.none i (omega (arith, s.inside)) s))
-  ended_nothing (there k l e) h = absurd (omega arith)
+  -- at a clause with the literals
+  pub passed_here : b < length row → same_set q (clause_at row b) ≡ true → Some b ≡ first_place row q
+  passed_here h e = sym (first-place row q (record { start = k.start h; same = same_is q (clause_at row b) e; least = k.none }))

@@ -3,7 +3,7 @@
 use mathlib.Core.Path.{◌≡◌, refl, sym, ◌∙◌, ap, subst}
 use mathlib.Core.Bool.{Bool, true, false, cond, ◌&&◌, true≢false}
 use mathlib.Core.List.{List, [], ◌∷◌}
-use Prim.Native.Nat.{ℕ, zero, suc, ◌+◌, ◌-◌, ◌*◌, ◌≤◌, ◌<◌}
+use Prim.Native.Nat.{ℕ, zero, suc, ◌+◌, ◌*◌, ◌≤◌, ◌<◌}
 use native.Mathlib.Omega.{arith}
 use native.Mathlib.Decide.{ℕ_discrete, dec_lt}
 use borrow.Author.Tests.{eq-eqb, ne_eqb, lt-ltb, le-ltb, le-leb, lt-leb}
@@ -12,12 +12,11 @@ use lib.Dec.{eqb, leb, ltb}
 use lib.ListN.{length, get_or, set, length-set}
 use lib.Seq.{get_or-set_same, get_or-set_other}
 use Rattle.clauses.specs.Lists.{keep}
-use Rattle.clauses.specs.Chains.{Last}
 use Rattle.clauses.proofs.Lists.{keep_yes, keep_no, keep_none}
 use Rattle.gates.specs.Normal.{Normal, max_code}
-use Rattle.gates.specs.Ites.{is_paired, is_paired_at, Half, halves_at, halves, all_halves, mates, side_mark, Sided, SidesAt, is_plain_half, pairs_of, PlacesChained}
+use Rattle.gates.specs.Ites.{is_paired, is_paired_at, Half, halves_at, halves, all_halves, mates, side_mark, Sided, SidesAt, is_plain_half, pairs_of}
 use Rattle.gates.proofs.Halves.{two_more, place_inside, pairs_none, pairs_one, no_mark}
-use Rattle.gates.proofs.Sizes.{paired_at, Along}
+use Rattle.gates.proofs.Sizes.{paired_at, LastWith}
 
 -- what passes the third test passes the first or the second, and not both
 abbrev pub Adds : (ℕ → Bool) → (ℕ → Bool) → (ℕ → Bool) → Type 0
@@ -150,32 +149,27 @@ module _ (row : List ℕ) where
   unfoldable pub isFrom : ℕ → ℕ → ℕ → Bool
   isFrom x k p = is_paired_at row x p && leb k p
 
-  module _ (x : ℕ) (heads chain : List ℕ) (c : PlacesChained row (length row) heads chain) where
-    pub from_begin : x < length heads → (p : ℕ) → isFrom x (get_or heads x 0) p ≡ false
-    unfolding isFrom
-    from_begin l p =
-        cases (is_paired_at row x p)
-        (λ t. rw (t, lt-leb (get_or heads x 0) p ((c.head x l).none p (place_inside row p (paired_at row p x t).0) t)))
-        (λ t. rw t)
-
-    pub from_on : (k : ℕ) → Along row x k → 0 < k → Adds (isFrom x k) (is (k - 1)) (isFrom x (get_or chain (k - 1) 0))
-    unfolding isFrom
-    from_on k w l p = cases (is_paired_at row x p) (λ t. here t (ℕ_discrete p (k - 1)) (dec_lt p k)) (λ t. rw (t, ne_eqb p (k - 1) (λ e. true≢false (sym (w.at l) ∙ rw e at t))))
-      where
-        o : Last (λ q u. is_paired_at row u q ≡ true) x (k - 1) (get_or chain (k - 1) 0)
-        o = c.link (k - 1) x (omega (arith, w.low)) (w.at l)
-
-        here : is_paired_at row x p ≡ true → Dec (p ≡ k - 1) → Dec (p < k)
-            → cond (is_paired_at row x p && leb (get_or chain (k - 1) 0) p) 1 0 ≡ cond (is_paired_at row x p && leb k p) 1 0 + cond (is (k - 1) p) 1 0
-        here t (yes e) d = rw (t, le-leb (get_or chain (k - 1) 0) p (omega (arith, o.low)), lt-leb k p (omega arith), eq-eqb p (k - 1) e)
-        here t (no n) (yes d) = rw (t, lt-leb (get_or chain (k - 1) 0) p (o.none p (omega arith) t), lt-leb k p d, ne_eqb p (k - 1) n)
-        here t (no n) (no d) = rw (t, le-leb (get_or chain (k - 1) 0) p (omega (arith, o.low)), le-leb k p (omega arith), ne_eqb p (k - 1) n)
-
-  pub from_before : (x k : ℕ) → 0 < k → {before after : List ℕ} {i j : ℕ} → SidesAt row (isFrom x k) before after i j → get_or after (k - 1) 0 ≡ get_or before (k - 1) 0
+  pub from_begin : (x k : ℕ) → LastWith row x (length row) k → (p : ℕ) → isFrom x k p ≡ false
   unfolding isFrom
-  from_before x k l s =
-      let e : isFrom x k (k - 1) ≡ false = rw (lt-leb k (k - 1) (omega arith)) (cases (is_paired_at row x (k - 1)) (λ t. rw t) (λ t. rw t)) in
-      omega (arith, rw e at (s.at (k - 1)))
+  from_begin x k o p =
+      cases (is_paired_at row x p)
+      (λ t. rw (t, lt-leb k p (o.none p (place_inside row p (paired_at row p x t).0) t)))
+      (λ t. rw t)
+
+  pub from_on : (x p r : ℕ) → is_paired_at row x p ≡ true → LastWith row x p r → Adds (isFrom x (p + 1)) (is p) (isFrom x r)
+  unfolding isFrom
+  from_on x p r h o q = cases (is_paired_at row x q) (λ t. here t (ℕ_discrete q p) (dec_lt q (p + 1))) (λ t. rw (t, ne_eqb q p (λ e. true≢false (sym h ∙ rw e at t))))
+    where
+      here : is_paired_at row x q ≡ true → Dec (q ≡ p) → Dec (q < p + 1) → cond (is_paired_at row x q && leb r q) 1 0 ≡ cond (is_paired_at row x q && leb (p + 1) q) 1 0 + cond (is p q) 1 0
+      here t (yes e) d = rw (t, le-leb r q (omega (arith, o.low)), lt-leb (p + 1) q (omega arith), eq-eqb q p e)
+      here t (no n) (yes d) = rw (t, lt-leb r q (o.none q (omega arith) t), lt-leb (p + 1) q d, ne_eqb q p n)
+      here t (no n) (no d) = rw (t, le-leb r q (omega (arith, o.low)), le-leb (p + 1) q (omega arith), ne_eqb q p n)
+
+  pub from_before : (x p : ℕ) → {before after : List ℕ} {i j : ℕ} → SidesAt row (isFrom x (p + 1)) before after i j → get_or after p 0 ≡ get_or before p 0
+  unfolding isFrom
+  from_before x p s =
+      let e : isFrom x (p + 1) p ≡ false = rw (lt-leb (p + 1) p (omega arith)) (cases (is_paired_at row x p) (λ t. rw t) (λ t. rw t)) in
+      omega (arith, rw e at (s.at p))
 
   from_all : (x k : ℕ) → k ≤ 0 → (p : ℕ) → isFrom x k p ≡ is_paired_at row x p
   unfolding isFrom

@@ -23,8 +23,7 @@ use Rattle.gates.specs.Search.{first_place}
 use Rattle.gates.specs.Normal.{Normal}
 use Rattle.gates.specs.Mark.{is_first}
 use Rattle.gates.specs.Ites.{in_three, other, is_paired}
-use Rattle.gates.specs.declared.search.Place.{Place}
-use Rattle.gates.specs.declared.search.Place.TheVariants.{At, Nothing}
+use Rattle.std.proofs.Common.{Option, Some, None}
 use Rattle.gates.proofs.ItesListed.{nets_apart, apart_nets, apart_signs}
 use Rattle.gates.proofs.Places.{First, place_first, first_only, nothing_present}
 use Rattle.gates.proofs.Firsts.{first_same, first_is, is-first}
@@ -224,9 +223,9 @@ module _ {row : List ℕ} (normal : Normal row) where
   found : (q : List ℕ) → Present (clauses_in row) q → (b : ℕ) × First row q b
   found q h = go (first_place row q) refl
     where
-      go : (r : Place) → first_place row q ≡ r → (b : ℕ) × First row q b
-      go (At b) e = (b, place_first row q e)
-      go Nothing e = absurd (true≢false (sym (is_present (clauses_in row) q h) ∙ nothing_present row q e))
+      go : (r : Option ℕ) → first_place row q ≡ r → (b : ℕ) × First row q b
+      go (Some b) e = (b, place_first row q e)
+      go None e = absurd (true≢false (sym (is_present (clauses_in row) q h) ∙ nothing_present row q e))
 
   module _ (x y z : ℕ) (xy : x ≢ y) (xz : x ≢ z) (yz : y ≢ z) (b : ℕ) (f : First row (x ∷ y ∷ z ∷ []) b)
       (companion : Present (clauses_in row) (x ∷ negate y ∷ negate z ∷ [])) where

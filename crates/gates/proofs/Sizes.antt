@@ -3,7 +3,7 @@
 use mathlib.Core.Path.{◌≡◌, refl, sym, ◌∙◌, ap}
 use mathlib.Core.Bool.{Bool, true, false, not, cond, true≢false}
 use mathlib.Core.List.{List, ◌∷◌}
-use Prim.Native.Nat.{ℕ, zero, suc, ◌+◌, ◌-◌, ◌*◌, ◌≤◌, ◌<◌}
+use Prim.Native.Nat.{ℕ, zero, suc, ◌+◌, ◌*◌, ◌≤◌, ◌<◌}
 use native.Mathlib.Omega.{arith}
 use native.Mathlib.Decide.{ℕ_discrete}
 use borrow.Author.Tests.{eq-eqb, ne_eqb, eqb-true}
@@ -14,7 +14,7 @@ use lib.Seq.{get_or-set_same, get_or-set_other}
 use Rattle.clauses.specs.Lists.{keep}
 use Rattle.clauses.specs.Chains.{Last}
 use Rattle.clauses.proofs.Lists.{and_both, both_and, keep_one, keep_length, has_keep}
-use Rattle.clauses.proofs.Chains.{chain_passed, chain_linked, WalkIn}
+use Rattle.clauses.proofs.Chains.{chain_passed, chain_linked}
 use Rattle.gates.specs.Ites.{other, is_paired, is_paired_at, halves, all_halves, output, side, is_of, is_half, size_of, PlacesChained, Sized}
 use Rattle.gates.proofs.Halves.{halves_length, two_more, place_inside}
 use Rattle.gates.proofs.Mates.{in_all, of_some}
@@ -39,9 +39,9 @@ module _ (row : List ℕ) where
     place_passed f = chain_passed _ p heads chain c (λ x h. true≢false (sym (paired_at p x h).0 ∙ f))
 
 module _ (row : List ℕ) (x : ℕ) where
-  -- a walk along the chain of x has come to k, counted from 1
-  abbrev pub Along : ℕ → Type 0
-  Along = WalkIn (λ p y. is_paired_at row y p ≡ true) (length row) x (λ i. i ≡ i)
+  -- k is the last place before m with literal x, counted from 1
+  abbrev pub LastWith : ℕ → ℕ → Type 0
+  LastWith = Last (λ p y. is_paired_at row y p ≡ true) x
 
   -- The sizes
 
@@ -130,51 +130,41 @@ module _ (row : List ℕ) (x : ℕ) where
 
   -- Along the chain
 
-  module _ (heads chain : List ℕ) (c : PlacesChained row (length row) heads chain) where
-    first_size : x < length heads → (y : ℕ) → size_of row x y (2 * length row) ≡ size_of row x y (2 * get_or heads x 0)
-    first_size l y = size_last y (length row) (get_or heads x 0) (c.head x l)
+  pub counting_begin : (k : ℕ) → LastWith (length row) k → (sizes sides : List ℕ) → ((y : ℕ) → get_or sizes y 0 ≡ 0) → Counting sizes sides k
+  counting_begin k o sizes sides z =
+      record { rest = λ y. omega (arith, z y, size_last y (length row) k o); some = λ y s. absurd (omega (arith, z y)) }
 
-    next_size : (k : ℕ) → Along k → 0 < k → (y : ℕ) → size_of row x y (2 * (k - 1)) ≡ size_of row x y (2 * get_or chain (k - 1) 0)
-    next_size k w l y = size_last y (k - 1) (get_or chain (k - 1) 0) (c.link (k - 1) x (omega (arith, w.low)) (w.at l))
+  pub clearing_begin : (k : ℕ) → LastWith (length row) k → (sizes : List ℕ) → ((y : ℕ) → get_or sizes y 0 ≡ size_of row x y (2 * length row)) → Clearing sizes k
+  clearing_begin k o sizes s = record { zero = λ y h. s y ∙ size_last y (length row) k o ∙ h }
 
-    this_size : (k : ℕ) → Along k → 0 < k → (y : ℕ) → size_of row x y (2 * k)
-        ≡ cond (eqb (other row (k - 1) true) y) 1 0 + (cond (eqb (other row (k - 1) false) y) 1 0 + size_of row x y (2 * get_or chain (k - 1) 0))
-    this_size k w l y =
-        let e : k ≡ k - 1 + 1 = omega arith in
-        ap (λ (i : ℕ). size_of row x y (2 * i)) e ∙ size_here y (k - 1) (w.at l) ∙ rw (next_size k w l y)
+  -- from place p to the one before it, r counted from 1; a and b are the other two literals at p
+  module _ (p r : ℕ) (h : is_paired_at row x p ≡ true) (o : LastWith p r) (a b : ℕ) (e : a ≡ other row p false) (f : b ≡ other row p true) where
+    this_size : (y : ℕ) → size_of row x y (2 * (p + 1)) ≡ cond (eqb b y) 1 0 + (cond (eqb a y) 1 0 + size_of row x y (2 * r))
+    this_size y = size_here y p h ∙ rw (size_last y p r o, e, f)
 
-    pub counting_begin : x < length heads → (sizes sides : List ℕ) → ((y : ℕ) → get_or sizes y 0 ≡ 0) → Counting sizes sides (get_or heads x 0)
-    counting_begin l sizes sides z =
-        record { rest = λ y. omega (arith, z y, first_size l y); some = λ y s. absurd (omega (arith, z y)) }
+    module _ (sizes sides sizes₁ sizes₂ sides₁ sides₂ : List ℕ) (u : sizes₁ ≡ set sizes b (get_or sizes b 0 + 1)) (v : sizes₂ ≡ set sizes₁ a (get_or sizes₁ a 0 + 1))
+        (s : sides₁ ≡ set sides b a) (t : sides₂ ≡ set sides₁ a b) (b-size : b < length sizes) (a-size : a < length sizes) (b-side : b < length sides) (a-side : a < length sides) where
+      size_added : (y : ℕ) → get_or sizes₂ y 0 ≡ cond (eqb a y) 1 0 + (cond (eqb b y) 1 0 + get_or sizes y 0)
+      size_added y =
+          let inside : a < length sizes₁ = rw (u, length-set) a-size in
+          rw (v, add_size sizes₁ a y inside, u, add_size sizes b y b-size)
 
-    module _ (sizes sides : List ℕ) (k : ℕ) (w : Along k) (l : 0 < k) (a b : ℕ) (e : a ≡ other row (k - 1) false) (f : b ≡ other row (k - 1) true) where
-      module _ (sizes₁ sizes₂ sides₁ sides₂ : List ℕ) (p : sizes₁ ≡ set sizes b (get_or sizes b 0 + 1)) (q : sizes₂ ≡ set sizes₁ a (get_or sizes₁ a 0 + 1))
-          (r : sides₁ ≡ set sides b a) (s : sides₂ ≡ set sides₁ a b) (b-size : b < length sizes) (a-size : a < length sizes) (b-side : b < length sides) (a-side : a < length sides) where
-        size_added : (y : ℕ) → get_or sizes₂ y 0 ≡ cond (eqb a y) 1 0 + (cond (eqb b y) 1 0 + get_or sizes y 0)
-        size_added y =
-            let inside : a < length sizes₁ = rw (p, length-set) a-size in
-            rw (q, add_size sizes₁ a y inside, p, add_size sizes b y b-size)
+      pub counting_on : Counting sizes sides (p + 1) → Counting sizes₂ sides₂ r
+      counting_on g = record { rest = λ y. rw (size_added y) (omega (arith, g.rest y, this_size y)); some = λ y. some y (ℕ_discrete y a) (ℕ_discrete y b) }
+        where
+          some : (y : ℕ) → Dec (y ≡ a) → Dec (y ≡ b) → 0 < get_or sizes₂ y 0 → 0 < length (keep (is_half row x y (get_or sides₂ y 0)) (all_halves row))
+          some y (yes i) j k = rw (i, t, get_or-set_same sides₁ a b 0 (rw (s, length-set) a-side), e, f) (half_here p false h)
+          some y (no m) (yes j) k = rw (j, t, get_or-set_other sides₁ a b b 0 (λ i. m (j ∙ i)), s, get_or-set_same sides b a 0 b-side, e, f) (half_here p true h)
+          some y (no m) (no n) k =
+              rw (t, get_or-set_other sides₁ a y b 0 m, s, get_or-set_other sides b y a 0 n)
+              (g.some y (omega (arith, rw (size_added y, ne_eqb a y (λ i. m (sym i)), ne_eqb b y (λ i. n (sym i))) at k)))
 
-        pub counting_on : Counting sizes sides k → Counting sizes₂ sides₂ (get_or chain (k - 1) 0)
-        counting_on g = record { rest = λ y. rw (size_added y) (omega (arith, g.rest y, rw (← e, ← f) at (this_size k w l y))); some = λ y. some y (ℕ_discrete y a) (ℕ_discrete y b) }
-          where
-            some : (y : ℕ) → Dec (y ≡ a) → Dec (y ≡ b) → 0 < get_or sizes₂ y 0 → 0 < length (keep (is_half row x y (get_or sides₂ y 0)) (all_halves row))
-            some y (yes i) j h = rw (i, s, get_or-set_same sides₁ a b 0 (rw (r, length-set) a-side), e, f) (half_here (k - 1) false (w.at l))
-            some y (no m) (yes j) h = rw (j, s, get_or-set_other sides₁ a b b 0 (λ i. m (j ∙ i)), r, get_or-set_same sides b a 0 b-side, e, f) (half_here (k - 1) true (w.at l))
-            some y (no m) (no n) h =
-                rw (s, get_or-set_other sides₁ a y b 0 m, r, get_or-set_other sides b y a 0 n)
-                (g.some y (omega (arith, rw (size_added y, ne_eqb a y (λ i. m (sym i)), ne_eqb b y (λ i. n (sym i))) at h)))
-
-    pub clearing_begin : x < length heads → (sizes : List ℕ) → ((y : ℕ) → get_or sizes y 0 ≡ size_of row x y (2 * length row)) → Clearing sizes (get_or heads x 0)
-    clearing_begin l sizes s = record { zero = λ y h. s y ∙ first_size l y ∙ h }
-
-    pub clearing_on : (sizes : List ℕ) (k : ℕ) → Along k → 0 < k → Clearing sizes k → (a b : ℕ) → a ≡ other row (k - 1) false → b ≡ other row (k - 1) true → a < length sizes → b < length sizes
-        → Clearing (set (set sizes b 0) a 0) (get_or chain (k - 1) 0)
-    clearing_on sizes k w l g a b e f a-size b-size = record { zero = λ y. zero y (ℕ_discrete y a) (ℕ_discrete y b) }
+    pub clearing_on : (sizes : List ℕ) → Clearing sizes (p + 1) → a < length sizes → b < length sizes → Clearing (set (set sizes b 0) a 0) r
+    clearing_on sizes g a-size b-size = record { zero = λ y. zero y (ℕ_discrete y a) (ℕ_discrete y b) }
       where
-        zero : (y : ℕ) → Dec (y ≡ a) → Dec (y ≡ b) → size_of row x y (2 * get_or chain (k - 1) 0) ≡ 0 → get_or (set (set sizes b 0) a 0) y 0 ≡ 0
-        zero y (yes i) j h = rw (i, get_or-set_same (set sizes b 0) a 0 0 (rw length-set a-size))
-        zero y (no m) (yes j) h = rw (j, get_or-set_other (set sizes b 0) a b 0 0 (λ i. m (j ∙ i)), get_or-set_same sizes b 0 0 b-size)
-        zero y (no m) (no n) h =
+        zero : (y : ℕ) → Dec (y ≡ a) → Dec (y ≡ b) → size_of row x y (2 * r) ≡ 0 → get_or (set (set sizes b 0) a 0) y 0 ≡ 0
+        zero y (yes i) j k = rw (i, get_or-set_same (set sizes b 0) a 0 0 (rw length-set a-size))
+        zero y (no m) (yes j) k = rw (j, get_or-set_other (set sizes b 0) a b 0 0 (λ i. m (j ∙ i)), get_or-set_same sizes b 0 0 b-size)
+        zero y (no m) (no n) k =
             rw (get_or-set_other (set sizes b 0) a y 0 0 m, get_or-set_other sizes b y 0 0 n)
-            (g.zero y (this_size k w l y ∙ rw (← e, ← f, ne_eqb a y (λ i. m (sym i)), ne_eqb b y (λ i. n (sym i)), h)))
+            (g.zero y (this_size y ∙ rw (ne_eqb a y (λ i. m (sym i)), ne_eqb b y (λ i. n (sym i)), k)))

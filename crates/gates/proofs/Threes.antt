@@ -15,7 +15,7 @@ use lib.ListN.{length, get_or}
 use Rattle.clauses.specs.Code.{negate}
 use Rattle.clauses.specs.Clause.{Mem, Within, Same}
 use Rattle.clauses.specs.Lists.{from}
-use Rattle.clauses.specs.Row.{clause_at, Starts, Spans, start_of, around}
+use Rattle.clauses.specs.Row.{clause_at, Starts, start_of, around}
 use Rattle.clauses.proofs.Lists.{and_both, both_and, in_first, in_second, in_third}
 use Rattle.clauses.proofs.Clauses.{same_refl, same_sym}
 use Rattle.clauses.proofs.Rows.{literal_some, clause_ended, clause_listed}
@@ -49,10 +49,6 @@ module _ (row : List ℕ) where
 
   pub start_in_three : (b p : ℕ) → Starts row b → Three b → b ≤ p → p < b + 3 → start_of row p ≡ b
   start_in_three b p s t l u = start_only row b p s l (omega (arith, t.size)) (omega (arith, t.inside))
-
-  -- the part of the row that it is
-  pub three_spans : (b : ℕ) → Three b → Spans row b (b + 3)
-  three_spans b t = record { inside = omega (arith, t.inside); is = omega (arith, t.size) }
 
   clause_three : (b : ℕ) → Three b → clause_at row b ≡ get_or row b 0 ∷ get_or row (b + 1) 0 ∷ get_or row (b + 2) 0 ∷ []
   unfolding from

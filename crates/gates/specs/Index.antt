@@ -1,6 +1,6 @@
 -- The clause index of a row of codes: clauses in buckets, so that a search compares only those of one bucket. Inner contracts alone cite it.
 -- Assumes nothing.
-use Rattle.std.specs.Prelude.{◌≡◌, ◌≢◌, Bool, ◌||◌, List, [], ◌∷◌, ℕ, ◌+◌, ◌-◌, ◌*◌, ◌%◌, ◌≤◌, ◌<◌, eqb, length, get_or}
+use Rattle.std.specs.Prelude.{◌≡◌, ◌≢◌, Bool, true, ◌||◌, List, [], ◌∷◌, ℕ, ◌+◌, ◌-◌, ◌*◌, ◌%◌, ◌≤◌, ◌<◌, eqb, length, get_or}
 use Rattle.clauses.specs.Listing.{literals}
 use Rattle.clauses.specs.Row.{clause_at, Starts}
 
@@ -28,7 +28,7 @@ is_start row b = eqb b 0 || eqb (get_or row (b - 1) 0) 0
 pub record NextIn (row : List ℕ) (h b j : ℕ) : Type 0 where
   pub low : b ≤ j
   pub high : j ≤ length row
-  pub here : j < length row → Starts row j × (bucket_of (clause_at row j) ≡ h)
+  pub here : j < length row → (is_start row j ≡ true) × (bucket_of (clause_at row j) ≡ h)
   pub none : (p : ℕ) → b ≤ p → p < j → Starts row p → bucket_of (clause_at row p) ≢ h
 
 -- the index has an entry for each bucket, its first clause, and then one for each place of the row: where a clause starts, the next one of its

@@ -8,5 +8,7 @@ pub mod Found
 pub mod Search
 pub mod Normal
 pub mod Index
+pub mod Clauses
 pub mod Mark
 pub mod Ites
+pub mod Paired

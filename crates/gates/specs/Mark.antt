@@ -1,6 +1,6 @@
 -- Which literals and clauses of a row of codes the finder marks as ANDs, XORs and pairs; no entry point's contract cites these.
 -- Assumes nothing.
-use Rattle.std.specs.Prelude.{◌≡◌, ◌≢◌, Bool, false, cond, not, ◌&&◌, ◌||◌, List, [], ◌∷◌, ℕ, ◌+◌, ◌≤◌, ◌<◌, eqb, leb, length, get_or}
+use Rattle.std.specs.Prelude.{◌≡◌, ◌≢◌, Bool, false, cond, not, ◌&&◌, ◌||◌, List, [], ◌∷◌, Option, Some, None, ℕ, ◌+◌, ◌≤◌, ◌<◌, eqb, leb, length, get_or}
 use Rattle.clauses.specs.Code.{negate, net}
 use Rattle.clauses.specs.Clause.{clauses_in}
 use Rattle.clauses.specs.Lists.{all, keep, from}
@@ -10,14 +10,14 @@ use Rattle.clauses.specs.Row.{clause_at, Starts, LiteralAt, start_of}
 use Rattle.gates.specs.Listing.{signings}
 use Rattle.gates.specs.Search.{first_place}
 use Rattle.gates.specs.Normal.{max_code}
-use Rattle.gates.specs.declared.search.Place.{Place}
-use Rattle.gates.specs.declared.search.Place.TheVariants.{At, Nothing}
+use Rattle.gates.specs.declared.kind.Kind.{Kind}
+use Rattle.gates.specs.declared.kind.Kind.TheVariants.{Other, Long, Three}
 
 -- Clauses
 
-unfoldable pub is_at : ℕ → Place → Bool
-is_at b (At a) = eqb a b
-is_at b Nothing = false
+unfoldable pub is_at : ℕ → Option ℕ → Bool
+is_at b (Some a) = eqb a b
+is_at b None = false
 
 -- 'two clauses with equal sets are one': the clause that starts at b is the first of its set
 unfoldable pub is_first : List ℕ → ℕ → Bool
@@ -27,14 +27,14 @@ is_first row b = is_at b (first_place row (clause_at row b))
 unfoldable pub is_candidate : List ℕ → ℕ → Bool
 is_candidate row b = leb 3 (length (clause_at row b)) && is_first row b
 
--- its kind: 2 for a candidate of three literals, 1 for a longer one, 0 for any other clause
-unfoldable pub kind_of : List ℕ → ℕ → ℕ
-kind_of row b = cond (is_candidate row b) (cond (eqb (length (clause_at row b)) 3) 2 1) 0
+-- its kind: three for a candidate of three literals, long for a longer one, other for any other clause
+unfoldable pub kind_of : List ℕ → ℕ → Kind
+kind_of row b = cond (is_candidate row b) (cond (eqb (length (clause_at row b)) 3) Three Long) Other
 
 -- the kinds of the clauses that start before place p, each where its clause starts
-pub record Kinds (row kinds : List ℕ) (p : ℕ) : Type 0 where
+pub record Kinds (row : List ℕ) (kinds : List Kind) (p : ℕ) : Type 0 where
   pub room : length row ≤ length kinds
-  pub at : (b : ℕ) → b < p → Starts row b → get_or kinds b 0 ≡ kind_of row b
+  pub at : (b : ℕ) → b < p → Starts row b → get_or kinds b Other ≡ kind_of row b
 
 -- ANDs
 

@@ -1,21 +1,19 @@
 -- The search for a clause in a row of codes.
 -- Assumes nothing.
-use Rattle.std.specs.Prelude.{◌≡◌, false, cond, ℕ, ◌+◌, ◌≤◌, ◌<◌, length, get_or}
+use Rattle.std.specs.Prelude.{◌≡◌, false, cond, Option, Some, None, ℕ, ◌+◌, ◌≤◌, ◌<◌, length, get_or}
 use mathlib.Core.List.{List, [], ◌∷◌, Memᴰ}
 use Rattle.clauses.specs.Clause.{clauses_in, Tautology}
 use Rattle.clauses.specs.Listing.{mem, same_set, literals}
 use Rattle.clauses.specs.Row.{clause_at}
-use Rattle.gates.specs.declared.search.Place.{Place}
-use Rattle.gates.specs.declared.search.Place.TheVariants.{At, Nothing}
 
 -- 'The search for a companion clause stops at the first clause that holds the same literals': where it starts, if the first of the clauses
 -- starts at place b and each is ended by a 0
-unfoldable pub place_in : List ℕ → List (List ℕ) → ℕ → Place
-place_in q [] b = Nothing
-place_in q (c ∷ cs) b = cond (same_set q c) (At b) (place_in q cs (b + length c + 1))
+unfoldable pub place_in : List ℕ → List (List ℕ) → ℕ → Option ℕ
+place_in q [] b = None
+place_in q (c ∷ cs) b = cond (same_set q c) (Some b) (place_in q cs (b + length c + 1))
 
 -- .. in a row of codes
-unfoldable pub first_place : List ℕ → List ℕ → Place
+unfoldable pub first_place : List ℕ → List ℕ → Option ℕ
 first_place row q = place_in q (clauses_in row) 0
 
 -- no clause of the row is one that is ignored

@@ -3,7 +3,7 @@
 ghost use Rattle.std.specs.Prelude.{◌≡◌, ◌+◌, ◌<◌};
 ghost use Rattle.gates.specs.Running.{with_ands, with_xors, with_ites};
 
-#[derive(Clone, Copy)]
+#[derive(Clone, Copy, Default)]
 pub struct Counts {
     pub ands: u32,
     pub xors: u32,
@@ -32,33 +32,4 @@ pub fn add_ites(counts: &mut Counts, n: u32)
     ensures { counts.new ≡ with_ites counts.old n }
 {
     counts.ites += n;
-}
-
-impl Counts {
-    pub fn with_ands(self, n: u32) -> Counts
-        requires { self.ands + n < 4294967296 }
-        ensures { result ≡ with_ands self n }
-    {
-        let mut counts = self;
-        add_ands(&mut counts, n);
-        counts
-    }
-
-    pub fn with_xors(self, n: u32) -> Counts
-        requires { self.xors + n < 4294967296 }
-        ensures { result ≡ with_xors self n }
-    {
-        let mut counts = self;
-        add_xors(&mut counts, n);
-        counts
-    }
-
-    pub fn with_ites(self, n: u32) -> Counts
-        requires { self.ites + n < 4294967296 }
-        ensures { result ≡ with_ites self n }
-    {
-        let mut counts = self;
-        add_ites(&mut counts, n);
-        counts
-    }
 }

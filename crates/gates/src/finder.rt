@@ -1,66 +1,47 @@
 // The gates of a clause list.
 
-ghost use Rattle.std.specs.Prelude.{◌≡◌, ◌↔◌, List, map, ℕ, ◌-◌, ◌≤◌, ◌<◌, length, get_or, take, drop, replicate};
+ghost use Rattle.std.specs.Prelude.{◌≡◌, ◌↔◌, List, map, ℕ, ◌-◌, ◌≤◌, ◌<◌, length, get_or, take, drop};
 ghost use Rattle.clauses.specs.Limit.{max_entries};
 ghost use Rattle.clauses.specs.Code.{code_of};
 ghost use Rattle.clauses.specs.Clause.{Present, clauses_in, clauses_of};
 ghost use Rattle.clauses.specs.Row.{SmallEntries};
 ghost use Rattle.gates.specs.Counted.{AreCounts};
 ghost use Rattle.gates.specs.Found.{Found};
-ghost use Rattle.gates.specs.Normal.{Normal, normal_row, max_code};
-ghost use Rattle.gates.specs.Index.{Indexed};
-ghost use Rattle.gates.specs.Ites.{Room};
+ghost use Rattle.gates.specs.Normal.{normal_row, max_code};
 
 use crate::and::list_twos;
 use crate::counts::Counts;
-use crate::first::list_kinds;
-use crate::index::BUCKETS;
+use crate::first::{ClauseKinds, list_kinds};
+use crate::index::{BUCKETS, ClauseIndex};
 use crate::ites::mark_ites;
+use crate::kind::Kind;
 use crate::mark::{mark_clauses, mark_pairs};
 use crate::prepare::prepare;
-use clauses::fill::clear;
 use clauses::limits::{CODES, MAX_ENTRIES};
 
 // Entries of the index of clauses.
 const INDEX: usize = BUCKETS + MAX_ENTRIES;
 
-// Marks the gates of a row of codes, whatever the marks held, and counts them.
-fn mark_gates(
-    codes: &[u32],
-    index: &[u32],
-    kinds: &mut [u8],
-    twos: &mut [u32],
-    heads: &mut [u32],
-    chain: &mut [u32],
-    sizes: &mut [u32],
-    sides: &mut [u32],
-    marks: &mut [u8],
-) -> Counts
-    requires indexed { Indexed codes.now index.now }
-    requires normal { Normal codes.now }
-    requires room { Room codes.now (length heads.old) (length chain.old) }
-    requires codes_in_bounds { (length codes.now ≤ length kinds.old) × (max_code < length twos.old) }
-    requires heads_value { heads.old ≡ replicate (length heads.old) 0 }
-    requires max_code_in_bounds { (max_code < length sizes.old) × (max_code < length sides.old) }
-    requires by_index { (y : ℕ) → get_or sizes.old y 0 ≡ 0 }
-    requires marks_len { length marks.old ≡ length codes.now }
-    ensures { (cs : List (List ℕ)) → ((c : List ℕ) → Present cs c ↔ Present (clauses_in codes.now) c)
-        → Found cs codes.now marks.new × AreCounts cs result.ands result.xors result.ites }
+// Marks the gates of a row of codes, whatever the marks held, and counts them. The other row is for the literals of clauses of two.
+fn mark_gates(list: &ClauseIndex, twos: &mut [u32], marks: &mut [u8]) -> Counts
+    requires max_code_in_bounds { max_code < length twos.old }
+    requires marks_len { length marks.old ≡ length list.now.codes.now }
+    ensures { (cs : List (List ℕ)) → ((c : List ℕ) → Present cs c ↔ Present (clauses_in list.now.codes.now) c)
+        → Found cs list.now.codes.now marks.new × AreCounts cs result.ands result.xors result.ites }
 {
-    clear(marks);
-    let none = Counts {
-        ands: 0,
-        xors: 0,
-        ites: 0,
+    let mut kinds = [Kind::Other; MAX_ENTRIES];
+    let mut counts = Counts::default();
+    marks.fill(0);
+    list_kinds(list, &mut kinds);
+    list_twos(list, twos);
+    let kinds = ClauseKinds {
+        list: *list,
+        kinds: &kinds,
     };
-    list_kinds(codes, index, kinds);
-    list_twos(codes, twos);
-    let found = mark_clauses(codes, index, kinds, twos, marks, none);
-    let all = mark_ites(
-        codes, index, kinds, heads, chain, sizes, sides, marks, found,
-    );
-    mark_pairs(codes, index, marks);
-    all
+    mark_clauses(&kinds, twos, marks, &mut counts);
+    mark_ites(&kinds, marks, &mut counts);
+    mark_pairs(list, marks);
+    counts
 }
 
 // What has been found: how many entries the row of codes has, and how many gates there are.
@@ -85,26 +66,12 @@ pub fn find_gates(row: &[i32], codes: &mut [u32], marks: &mut [u8]) -> Finding
     ensures are_counts { AreCounts (clauses_of row.now) result.counts.ands result.counts.xors result.counts.ites }
 {
     let mut index = [0u32; INDEX];
-    let mut kinds = [0u8; MAX_ENTRIES];
     let mut seen = [0u32; CODES];
-    let mut heads = [0u32; CODES];
-    let mut chain = [0u32; MAX_ENTRIES];
-    let mut sizes = [0u32; CODES];
-    let mut sides = [0u32; CODES];
     let n = prepare(row, codes, &mut index, &mut seen);
-    let counts = mark_gates(
-        &codes[..n],
-        &index,
-        &mut kinds,
-        &mut seen,
-        &mut heads,
-        &mut chain,
-        &mut sizes,
-        &mut sides,
-        &mut marks[..n],
-    );
-    Finding {
-        entries: n,
-        counts: counts,
-    }
+    let list = ClauseIndex {
+        codes: &codes[..n],
+        index: &index,
+    };
+    let counts = mark_gates(&list, &mut seen, &mut marks[..n]);
+    Finding { entries: n, counts }
 }

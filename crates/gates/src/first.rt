@@ -2,84 +2,74 @@
 
 ghost use Rattle.std.specs.Prelude.{◌≡◌, ◌≤◌, length};
 ghost use Rattle.clauses.specs.Listing.{same_set};
-ghost use Rattle.clauses.specs.Row.{clause_at, Starts, Spans};
-ghost use Rattle.gates.specs.Index.{Indexed};
-ghost use Rattle.gates.specs.Normal.{Normal};
+ghost use Rattle.clauses.specs.Row.{clause_at, Starts};
 ghost use Rattle.gates.specs.Mark.{is_first, is_candidate, kind_of, Kinds};
 
-use crate::index::{BUCKETS, bucket_at};
+use crate::clause::Clause;
+use crate::index::{ClauseIndex, bucket_of};
+use crate::kind::Kind;
 use crate::same::is_same_set;
 use clauses::place::clause_end;
 
-// Whether the clause at a is a copy of the one from b to end: they are equal as sets. If one has more literals they are not compared.
-fn is_copy(codes: &[u32], b: usize, end: usize, a: usize) -> bool
-    requires normal { Normal codes.now }
-    requires spans { Spans codes.now b end × Starts codes.now b × Starts codes.now a }
-    ensures { result ≡ same_set (clause_at codes.now b) (clause_at codes.now a) }
-{
-    if clause_end(codes, a) - a != end - b {
-        return false;
+impl Clause<'_> {
+    // Whether the clause at a is a copy of it: they are equal as sets. If one has more literals they are not compared.
+    fn is_copy(&self, a: usize) -> bool
+        requires { Starts self.now.list.codes.now a }
+        ensures { result ≡ same_set (clause_at self.now.list.codes.now self.now.start) (clause_at self.now.list.codes.now a) }
+    {
+        let codes = self.list.codes;
+        clause_end(codes, a) - a == self.len() && is_same_set(codes, self.start, a)
     }
-    is_same_set(codes, b, a)
-}
 
-// Whether the clause from b to end is the first of its set. Of the clauses before it those of its bucket are met.
-fn is_first(codes: &[u32], index: &[u32], b: usize, end: usize) -> bool
-    requires indexed { Indexed codes.now index.now }
-    requires normal { Normal codes.now }
-    requires spans { Spans codes.now b end × Starts codes.now b }
-    ensures { result ≡ is_first codes.now b }
-{
-    let mut a = index[bucket_at(codes, b)] as usize;
-    while a < b {
-        if is_copy(codes, b, end, a) {
-            return false;
+    // Whether it is the first of its set. Of the clauses before it those of its bucket are met.
+    fn is_first(&self) -> bool
+        ensures { result ≡ is_first self.now.list.codes.now self.now.start }
+    {
+        let mut a = self.list.first_in(bucket_of(self.literals(), 0));
+        while a < self.start {
+            if self.is_copy(a) {
+                return false;
+            }
+            a = self.list.next_in(a);
         }
-        a = index[BUCKETS + a] as usize;
+        true
     }
-    true
+
+    // Whether it has three literals or more and is the first of its set.
+    fn is_candidate(&self) -> bool
+        ensures { result ≡ is_candidate self.now.list.codes.now self.now.start }
+    {
+        3 <= self.len() && self.is_first()
+    }
+
+    fn kind(&self) -> Kind
+        ensures { result ≡ kind_of self.now.list.codes.now self.now.start }
+    {
+        if !self.is_candidate() {
+            return Kind::Other;
+        }
+        if self.len() == 3 {
+            Kind::Three
+        } else {
+            Kind::Long
+        }
+    }
 }
 
-// Whether the clause from b to end has three literals or more and is the first of its set.
-fn is_candidate(codes: &[u32], index: &[u32], b: usize, end: usize) -> bool
-    requires indexed { Indexed codes.now index.now }
-    requires normal { Normal codes.now }
-    requires spans { Spans codes.now b end × Starts codes.now b }
-    ensures { result ≡ is_candidate codes.now b }
-{
-    if end - b < 3 {
-        return false;
-    }
-    is_first(codes, index, b, end)
-}
-
-// The kind of the clause from b to end: 2 for such a one of three literals, 1 for a longer one, 0 for any other clause.
-fn kind_of(codes: &[u32], index: &[u32], b: usize, end: usize) -> u8
-    requires indexed { Indexed codes.now index.now }
-    requires normal { Normal codes.now }
-    requires spans { Spans codes.now b end × Starts codes.now b }
-    ensures { result ≡ kind_of codes.now b }
-{
-    if !is_candidate(codes, index, b, end) {
-        return 0;
-    }
-    if end - b == 3 {
-        return 2;
-    }
-    1
+// A row with its index, and the kinds of its clauses, each where its clause starts.
+#[derive(Clone, Copy)]
+pub struct ClauseKinds<'a> {
+    pub list: ClauseIndex<'a>,
+    pub kinds: &'a [Kind],
+    ghost listed: { Kinds list.codes.now kinds.now (length list.codes.now) },
 }
 
 // Writes the kinds of all clauses, each where its clause starts.
-pub fn list_kinds(codes: &[u32], index: &[u32], kinds: &mut [u8])
-    requires indexed { Indexed codes.now index.now }
-    requires normal { Normal codes.now }
-    requires codes_in_bounds { length codes.now ≤ length kinds.old }
-    ensures { Kinds codes.now kinds.new (length codes.now) }
+pub fn list_kinds(list: &ClauseIndex, kinds: &mut [Kind])
+    requires { length list.now.codes.now ≤ length kinds.old }
+    ensures { Kinds list.now.codes.now kinds.new (length list.now.codes.now) }
 {
-    let mut b = 0;
-    while b < codes.len() {
-        let end = clause_end(codes, b);
-        kinds[b] = kind_of(codes, index, b, end);
-        b = end + 1;
+    for clause in list.clauses() {
+        kinds[clause.start] = clause.kind();
     }
 }

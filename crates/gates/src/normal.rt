@@ -7,7 +7,6 @@ ghost use Rattle.clauses.specs.Row.{clause_at, SmallEntries};
 ghost use Rattle.gates.specs.Normal.{normal_row, max_code, Older, gather_on, GatheredClause};
 
 use clauses::entry::code;
-use clauses::fill::fill;
 use clauses::sign::inverse;
 use clauses::walk::{Walk, next};
 
@@ -26,10 +25,7 @@ fn gather_literal(t: Gathered, x: i32, codes: &mut [u32], seen: &mut [u32], stam
     ensures { record { gathered = result; codes = codes.new; seen = seen.new } ≡ gather_on (code_of x) stamp (record { gathered = t; codes = codes.old; seen = seen.old }) }
 {
     let y = code(x);
-    let mut ignored = t.ignored;
-    if seen[inverse(y) as usize] == stamp {
-        ignored = true;
-    }
+    let ignored = seen[inverse(y) as usize] == stamp || t.ignored;
     let mut put = t.put;
     if seen[y as usize] != stamp {
         codes[put] = y;
@@ -38,8 +34,8 @@ fn gather_literal(t: Gathered, x: i32, codes: &mut [u32], seen: &mut [u32], stam
     seen[y as usize] = stamp;
     Gathered {
         end: t.end + 1,
-        put: put,
-        ignored: ignored,
+        put,
+        ignored,
     }
 }
 
@@ -80,15 +76,14 @@ pub fn normalise(row: &[i32], codes: &mut [u32], seen: &mut [u32]) -> usize
     ensures value { result ≡ length (normal_row row.now) }
     ensures codes_after { take result codes.new ≡ normal_row row.now }
 {
-    fill(seen, 0);
+    seen.fill(0);
     let mut n = 0;
     let mut b = 0;
     while b < row.len() {
         let gathered = gather_clause(row, b, codes, n, seen, (b as u32) + 1);
         if !gathered.ignored {
-            let m = gathered.put;
-            codes[m] = 0;
-            n = m + 1;
+            codes[gathered.put] = 0;
+            n = gathered.put + 1;
         }
         b = gathered.end + 1;
     }

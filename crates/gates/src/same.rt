@@ -14,10 +14,7 @@ const BLOCK: usize = 32;
 fn is_stop(y: u32, x: u32) -> bool
     ensures { result ≡ (eqb y 0 || eqb y x) }
 {
-    if y == 0 {
-        return true;
-    }
-    y == x
+    y == 0 || y == x
 }
 
 // False only if it goes past all entries from b to end. The loop is not left early, so that the compiler takes several entries at a time.
@@ -26,12 +23,10 @@ fn has_stop(codes: &[u32], b: usize, end: usize, x: u32) -> bool
     ensures { result ≡ false → GoesOn codes.now x b end }
 {
     let mut found = false;
-    let mut i = b;
-    while i < end {
-        if is_stop(codes[i], x) {
+    for y in &codes[b..end] {
+        if is_stop(*y, x) {
             found = true;
         }
-        i += 1;
     }
     found
 }
@@ -42,13 +37,7 @@ fn skip_blocks(codes: &[u32], b: usize, x: u32) -> usize
 {
     let n = codes.len();
     let mut i = b;
-    while i < n {
-        if n - i < BLOCK {
-            return i;
-        }
-        if has_stop(codes, i, i + BLOCK, x) {
-            return i;
-        }
+    while i < n && BLOCK <= n - i && !has_stop(codes, i, i + BLOCK, x) {
         i += BLOCK;
     }
     i
@@ -75,10 +64,8 @@ fn place_near(codes: &[u32], b: usize, next: usize, x: u32) -> usize
     if literal(codes, next) == x {
         return next;
     }
-    if 2 <= next - b {
-        if literal(codes, next - 2) == x {
-            return next - 2;
-        }
+    if 2 <= next - b && literal(codes, next - 2) == x {
+        return next - 2;
     }
     place_of(codes, b, x)
 }
@@ -108,8 +95,5 @@ fn is_within(codes: &[u32], a: usize, b: usize) -> bool
 pub fn is_same_set(codes: &[u32], a: usize, b: usize) -> bool
     ensures { result ≡ same_set (clause_at codes.now a) (clause_at codes.now b) }
 {
-    if !is_within(codes, a, b) {
-        return false;
-    }
-    is_within(codes, b, a)
+    is_within(codes, a, b) && is_within(codes, b, a)
 }

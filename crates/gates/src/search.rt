@@ -4,21 +4,12 @@ ghost use Rattle.std.specs.Prelude.{◌≡◌};
 ghost use Rattle.clauses.specs.Clause.{clauses_in};
 ghost use Rattle.clauses.specs.Listing.{mem, present};
 ghost use Rattle.clauses.specs.Row.{clause_at};
-ghost use Rattle.gates.specs.Normal.{Normal};
-ghost use Rattle.gates.specs.Index.{Indexed};
 ghost use Rattle.gates.specs.Search.{first_place, Once};
 ghost use Rattle.gates.specs.Mask.{masked};
 
-use crate::index::{BUCKETS, bucket_of};
+use crate::index::{ClauseIndex, bucket_of};
 use crate::literal::flipped;
 use clauses::place::literal;
-
-// Where a clause starts, if it is there.
-#[derive(Clone, Copy)]
-pub enum Place {
-    At(usize),
-    Nothing,
-}
 
 // Whether the clause at b holds x.
 fn holds(codes: &[u32], b: usize, x: u32) -> bool
@@ -34,51 +25,40 @@ fn holds(codes: &[u32], b: usize, x: u32) -> bool
     false
 }
 
-// The first clause with exactly the literals of q, those inverted whose bit is set in the mask: it has no more literals than these, and holds
-// all of them.
-fn find(codes: &[u32], index: &[u32], q: &[u32], mask: u32) -> Place
-    requires indexed { Indexed codes.now index.now }
-    requires normal { Normal codes.now }
-    requires once { Once (masked mask q.now) }
-    ensures { result ≡ first_place codes.now (masked mask q.now) }
-{
-    let n = codes.len();
-    let mut b = index[bucket_of(q, mask)] as usize;
-    let found = 'clauses: loop {
-        if n <= b {
-            break 'clauses n;
-        }
-        let here = b;
-        b = index[BUCKETS + here] as usize;
-        if literal(codes, here + q.len()) != 0 {
-            continue 'clauses;
-        }
-        let mut m = mask;
-        let mut i = 0;
-        'literals: while i < q.len() {
-            if !holds(codes, here, flipped(q[i], m)) {
+impl ClauseIndex<'_> {
+    // Where the first clause starts with exactly the literals of q, those inverted whose bit is set in the mask: it has no more literals than
+    // these, and holds all of them.
+    fn find(&self, q: &[u32], mask: u32) -> Option<usize>
+        requires { Once (masked mask q.now) }
+        ensures { result ≡ first_place self.now.codes.now (masked mask q.now) }
+    {
+        let n = self.codes.len();
+        let mut b = self.first_in(bucket_of(q, mask));
+        'clauses: loop {
+            if n <= b {
+                break 'clauses None;
+            }
+            let here = b;
+            b = self.next_in(here);
+            if literal(self.codes, here + q.len()) != 0 {
                 continue 'clauses;
             }
-            m = m / 2;
-            i += 1;
+            let mut m = mask;
+            'literals: for x in q {
+                if !holds(self.codes, here, flipped(*x, m)) {
+                    continue 'clauses;
+                }
+                m /= 2;
+            }
+            break 'clauses Some(here);
         }
-        break 'clauses here;
-    };
-    if found < n {
-        return Place::At(found);
     }
-    Place::Nothing
-}
 
-// Whether such a clause is present.
-pub fn is_present(codes: &[u32], index: &[u32], q: &[u32], mask: u32) -> bool
-    requires indexed { Indexed codes.now index.now }
-    requires normal { Normal codes.now }
-    requires once { Once (masked mask q.now) }
-    ensures { result ≡ present (clauses_in codes.now) (masked mask q.now) }
-{
-    match find(codes, index, q, mask) {
-        Place::At(_) => true,
-        Place::Nothing => false,
+    // Whether such a clause is present.
+    pub fn is_present(&self, q: &[u32], mask: u32) -> bool
+        requires { Once (masked mask q.now) }
+        ensures { result ≡ present (clauses_in self.now.codes.now) (masked mask q.now) }
+    {
+        self.find(q, mask).is_some()
     }
 }

@@ -1,64 +1,35 @@
 // The XORs, each by one of its clauses.
 
-ghost use Rattle.std.specs.Prelude.{◌≡◌, true, false, not, ◌||◌, map, ◌≤◌, ◌^◌, length};
+ghost use Rattle.std.specs.Prelude.{◌≡◌, true, false, not, ◌||◌, map, ◌≤◌, length};
 ghost use Rattle.clauses.specs.Code.{net};
 ghost use Rattle.clauses.specs.Clause.{clauses_in};
 ghost use Rattle.clauses.specs.Lists.{all};
 ghost use Rattle.clauses.specs.Listing.{present};
 ghost use Rattle.clauses.specs.Sign.{plus, is_inverse};
-ghost use Rattle.clauses.specs.Row.{clause_at, Starts, Spans};
+ghost use Rattle.clauses.specs.Row.{clause_at};
 ghost use Rattle.gates.specs.Listing.{signings};
-ghost use Rattle.gates.specs.Normal.{Normal};
-ghost use Rattle.gates.specs.Index.{Indexed};
 ghost use Rattle.gates.specs.Mark.{is_lowest, is_upright, gives_xor};
 ghost use Rattle.gates.specs.Search.{Once};
 ghost use Rattle.gates.specs.Mask.{masked, mask_odd};
 
-use crate::search::is_present;
+use crate::clause::Clause;
+use crate::index::ClauseIndex;
+use clauses::sign::is_inverse;
 
 // Whether no net of the clause is lower than x's.
 fn is_lowest(clause: &[u32], x: u32) -> bool
     ensures { result ≡ is_lowest clause.now x }
 {
-    let mut i = 0;
-    while i < clause.len() {
-        if clause[i] / 2 < x / 2 {
-            return false;
-        }
-        i += 1;
-    }
-    true
-}
-
-// Whether x is plain or of the clause's lowest net.
-fn is_upright_at(clause: &[u32], x: u32) -> bool
-    ensures { result ≡ (not (is_inverse x) || is_lowest clause.now x) }
-{
-    if x % 2 == 1 {
-        return is_lowest(clause, x);
-    }
-    true
+    clause.iter().all(|y| x / 2 <= *y / 2)
 }
 
 // Whether at most the lowest net is inverse.
 fn is_upright(clause: &[u32]) -> bool
     ensures { result ≡ is_upright clause.now }
 {
-    let mut i = 0;
-    while i < clause.len() {
-        if !is_upright_at(clause, clause[i]) {
-            return false;
-        }
-        i += 1;
-    }
-    true
-}
-
-// Whether an odd number is inverted with this bit too.
-fn is_odd_with(odd: bool, mask: u32) -> bool
-    ensures { result ≡ plus odd (is_inverse mask) }
-{
-    if mask % 2 == 1 { !odd } else { odd }
+    clause
+        .iter()
+        .all(|x| !is_inverse(*x) || is_lowest(clause, *x))
 }
 
 // Whether the mask changes an odd number of the clause's signs.
@@ -67,85 +38,45 @@ fn is_mask_odd(clause: &[u32], mask: u32) -> bool
 {
     let mut m = mask;
     let mut odd = false;
-    let mut i = 0;
-    while i < clause.len() {
-        odd = is_odd_with(odd, m);
-        m = m / 2;
-        i += 1;
+    for _ in clause {
+        odd ^= m % 2 == 1;
+        m /= 2;
     }
     odd
 }
 
-// Whether the clause with the signs changed that the mask has is present, if these are an even number.
-fn is_mask_present(codes: &[u32], index: &[u32], clause: &[u32], mask: u32) -> bool
-    requires indexed { Indexed codes.now index.now }
-    requires normal { Normal codes.now }
-    requires once { Once (map net clause.now) }
-    ensures { result ≡ (mask_odd mask clause.now || present (clauses_in codes.now) (masked mask clause.now)) }
-{
-    if is_mask_odd(clause, mask) {
-        return true;
+impl ClauseIndex<'_> {
+    // Whether the clause with the signs changed that the mask has is present, if these are an even number.
+    fn is_mask_present(&self, clause: &[u32], mask: u32) -> bool
+        requires { Once (map net clause.now) }
+        ensures { result ≡ (mask_odd mask clause.now || present (clauses_in self.now.codes.now) (masked mask clause.now)) }
+    {
+        is_mask_odd(clause, mask) || self.is_present(clause, mask)
     }
-    is_present(codes, index, clause, mask)
-}
 
-// How many masks there are for n literals.
-fn mask_count(n: usize) -> u32
-    requires { n ≤ 5 }
-    ensures { result ≡ 2 ^ n }
-{
-    let mut m: u32 = 1;
-    let mut i = 0;
-    while i < n {
-        m = m * 2;
-        i += 1;
-    }
-    m
-}
-
-// Whether the clause, which is present itself, is so with any even number of its signs changed.
-fn is_every_mask_present(codes: &[u32], index: &[u32], clause: &[u32]) -> bool
-    requires indexed { Indexed codes.now index.now }
-    requires normal { Normal codes.now }
-    requires once { Once (map net clause.now) }
-    requires clause_len_bound { length clause.now ≤ 5 }
-    requires clause_value { present (clauses_in codes.now) clause.now ≡ true }
-    ensures { result ≡ all (present (clauses_in codes.now)) (signings clause.now false) }
-{
-    let top = mask_count(clause.len());
-    let mut m = 1;
-    while m < top {
-        if !is_mask_present(codes, index, clause, m) {
-            return false;
+    // Whether the clause, which is present itself, is so with any even number of its signs changed.
+    fn is_every_mask_present(&self, clause: &[u32]) -> bool
+        requires once { Once (map net clause.now) }
+        requires clause_len_bound { length clause.now ≤ 5 }
+        requires clause_value { present (clauses_in self.now.codes.now) clause.now ≡ true }
+        ensures { result ≡ all (present (clauses_in self.now.codes.now)) (signings clause.now false) }
+    {
+        let masks = 1u32 << clause.len();
+        for mask in 1..masks {
+            if !self.is_mask_present(clause, mask) {
+                return false;
+            }
         }
-        m += 1;
+        true
     }
-    true
 }
 
-// Whether the clause, which is present, stands for an XOR, if it has three literals or more.
-fn gives_xor(codes: &[u32], index: &[u32], clause: &[u32]) -> bool
-    requires indexed { Indexed codes.now index.now }
-    requires normal { Normal codes.now }
-    requires once { Once (map net clause.now) }
-    requires clause_value { present (clauses_in codes.now) clause.now ≡ true }
-    ensures { result ≡ gives_xor (clauses_in codes.now) clause.now }
-{
-    if 5 < clause.len() {
-        return false;
+impl Clause<'_> {
+    // Whether it stands for an XOR, if it has three literals or more.
+    pub fn is_xor(&self) -> bool
+        ensures { result ≡ gives_xor (clauses_in self.now.list.codes.now) (clause_at self.now.list.codes.now self.now.start) }
+    {
+        let literals = self.literals();
+        literals.len() <= 5 && is_upright(literals) && self.list.is_every_mask_present(literals)
     }
-    if !is_upright(clause) {
-        return false;
-    }
-    is_every_mask_present(codes, index, clause)
-}
-
-// .. for the clause from b to end.
-pub fn is_xor(codes: &[u32], index: &[u32], b: usize, end: usize) -> bool
-    requires indexed { Indexed codes.now index.now }
-    requires normal { Normal codes.now }
-    requires spans { Spans codes.now b end × Starts codes.now b }
-    ensures { result ≡ gives_xor (clauses_in codes.now) (clause_at codes.now b) }
-{
-    gives_xor(codes, index, &codes[b..end])
 }

@@ -6,8 +6,9 @@ ghost use Rattle.std.specs.Prelude.{OnOk, IfSome, take};
 ghost use Rattle.std.specs.Io.KnownBytes.{Appends};
 ghost use Rattle.relist.specs.Relisting.{list_printed, relisted};
 
-use clauses::printing::{Printing, print};
-use clauses::reading::{Reading, read};
+use clauses::limits::{MAX_NUMBERS, MAX_TEXT};
+use clauses::printing::print;
+use clauses::reading::read;
 use std::io;
 use std::io::{Read, Write};
 use support::input::read_full;
@@ -17,10 +18,10 @@ use support::shown::print_refusal;
 fn print_list<W: Write>(out: &mut W, v: u32, c: u32, row: &[i32]) -> io::Result<()>
     ensures { OnOk result (Appends (W.contents out.old) (W.contents out.new) (list_printed v c row.now)) }
 {
-    let mut text = [0u8; 65536];
+    let mut text = [0; MAX_TEXT];
     match print(v, c, row, &mut text) {
-        Printing::Refused(r) => print_refusal(out, r),
-        Printing::Written(n) => out.write_all(&text[..n]),
+        Err(r) => print_refusal(out, r),
+        Ok(n) => out.write_all(&text[..n]),
     }
 }
 
@@ -28,13 +29,10 @@ fn print_list<W: Write>(out: &mut W, v: u32, c: u32, row: &[i32]) -> io::Result<
 fn relist<W: Write>(out: &mut W, text: &[u8]) -> io::Result<()>
     ensures { OnOk result (Appends (W.contents out.old) (W.contents out.new) (relisted text.now)) }
 {
-    let mut row = [0i32; 32763];
+    let mut row = [0; MAX_NUMBERS];
     match read(text, &mut row) {
-        Reading::Refused(r) => print_refusal(out, r),
-        Reading::Accepted(s) => {
-            let entries = s.entries;
-            print_list(out, s.nets, s.clauses, &row[..entries])
-        }
+        Err(r) => print_refusal(out, r),
+        Ok(s) => print_list(out, s.nets, s.clauses, &row[..s.entries]),
     }
 }
 
@@ -42,7 +40,7 @@ fn relist<W: Write>(out: &mut W, text: &[u8]) -> io::Result<()>
 fn run<R: Read, W: Write>(from: &mut R, out: &mut W) -> io::Result<()>
     ensures { OnOk result (IfSome (R.remaining from.old) (λ xs. Appends (W.contents out.old) (W.contents out.new) (relisted (take 65537 xs)))) }
 {
-    let mut text = [0u8; 65537];
+    let mut text = [0; MAX_TEXT + 1];
     let n = read_full(from, &mut text)?;
     relist(out, &text[..n])
 }

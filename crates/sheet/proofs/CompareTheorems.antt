@@ -1,6 +1,7 @@
 -- The theorems about the programs' way, from a text to its sheet: which refusals they can give, that the list is never left unfinished, and what the sheet of
 -- a circuit says of it.
 -- Assumes nothing.
+use Rattle.std.specs.Prelude.{Result, Ok, Err}
 use mathlib.Core.Path.{◌≡◌, refl, sym, ◌∙◌, ap, subst}
 use mathlib.Core.Logic.{◌≢◌}
 use mathlib.Core.Bool.{Bool, true}
@@ -21,8 +22,6 @@ use Rattle.clauses.specs.Refusal.{number_of, Test, numbered, first_over, size_te
 use Rattle.clauses.specs.Reading.{reading}
 use Rattle.clauses.specs.declared.refusal.Refusal.{Refusal}
 use Rattle.clauses.specs.declared.reading.ListSize.{ListSize}
-use Rattle.clauses.specs.declared.reading.Reading.{Reading}
-use Rattle.clauses.specs.declared.reading.Reading.TheVariants as R
 use Rattle.clauses.proofs.Answers.{read_within}
 use Rattle.clauses.proofs.Clauses.{mem_in, in_mem}
 use Rattle.clauses.proofs.Deciding.{NoneHolds, none_holds_append, is_among, none_among, decide_among, decide_none_holds, decide_accepted}
@@ -39,14 +38,12 @@ use Rattle.rules.specs.Answer.{Answer}
 use Rattle.rules.specs.Compute.{answer}
 use Rattle.closure.specs.Closing as Closing
 use Rattle.closure.specs.Closing.{max_work, leads_too_short, work_too_short, list_tests, too_many_rounds, summary, accepted, closing, Answers}
-use Rattle.closure.specs.declared.close.Closing.TheVariants as C
 use Rattle.closure.proofs.ClosingTests.{none_holds_fits, closing_parts, never_too_many, never_unfinished, rounds_accepted}
 use Rattle.closure.proofs.ClosingTheorems.{accepted_answers, answers_is, closing_true, closing_contradiction}
 use Rattle.sheet.specs.Sheet.{sheet_text}
 use Rattle.sheet.specs.Writing.{Outcome, sheet_buffer_too_short, refused, written, writing_tests, writing}
 use Rattle.sheet.specs.CircuitSheet.{CircuitSheet}
 use Rattle.sheet.specs.Comparing.{empty_row, empty_aiger_row, sheet_of, comparing, comparing_aiger}
-use Rattle.sheet.specs.declared.write.Writing.TheVariants.{Written, Refused}
 
 -- 'the sheet 5 to 14': document 01's numbers and places, in its order.
 pub writing_numbered : (v c : ℕ) (row : List ℤ) (limit : ℕ) (leads work text : List ℕ)
@@ -77,7 +74,7 @@ module _ (v c : ℕ) (row : List ℤ) (text : List ℕ) (few : v ≤ max_nets) w
   module _ (ns : List ℕ) where
     -- a refusal has one of these numbers
     Among : Outcome → Type 0
-    Among o = (r : Refusal) → o.result ≡ Refused r → mem (number_of r) ns ≡ true
+    Among o = (r : Refusal) → o.result ≡ Err r → mem (number_of r) ns ≡ true
 
     refused_among : (r : Refusal) → mem (number_of r) ns ≡ true → Among (refused leads work text r)
     unfolding Among refused
@@ -85,7 +82,7 @@ module _ (v c : ℕ) (row : List ℤ) (text : List ℕ) (few : v ≤ max_nets) w
 
     written_among : Among (written v leads work text a)
     unfolding Among written
-    written_among r e = let z : ◌≡◌ {A = ℕ} 0 1 = cc in absurd (omega arith)
+    written_among r e = absurd cc
 
     module _ (sizes : all (is_among ns) (size_tests v c row) ≡ true) (entries : all (is_among ns) (entry_tests v c row) ≡ true) (buffer : mem 13 ns ≡ true) where
       list_among : all (is_among ns) First ≡ true
@@ -113,12 +110,12 @@ module _ (v c : ℕ) (row : List ℤ) (text : List ℕ) (few : v ≤ max_nets) w
           (last_among (none_holds_fits v c row (length leads) (length work) n)) (λ m. written_among)))
 
   -- a sheet is written: it is the list's, and the list is finished
-  module _ (n : ℕ) (h : (writing v c row (v + 1) leads work text).result ≡ Written n) where
+  module _ (n : ℕ) (h : (writing v c row (v + 1) leads work text).result ≡ Ok n) where
     none_holds : NoneHolds (writing_tests v c row (v + 1) leads work text)
     unfolding writing refused
     none_holds =
-        decide_none_holds (refused leads work text) (written v leads work text a) (λ (o : Outcome). o.result ≡ Written n)
-        (λ r e. let z : ◌≡◌ {A = ℕ} 0 1 = cc in omega arith) (writing_tests v c row (v + 1) leads work text) h
+        decide_none_holds (refused leads work text) (written v leads work text a) (λ (o : Outcome). o.result ≡ Ok n)
+        (λ r e. cc) (writing_tests v c row (v + 1) leads work text) h
 
     none_listed : NoneHolds First
     unfolding writing_tests
@@ -134,12 +131,12 @@ module _ (v c : ℕ) (row : List ℤ) (text : List ℕ) (few : v ≤ max_nets) w
     writing_finished : (take n (writing v c row (v + 1) leads work text).text ≡ sheet_text v a) × (a.verdict ≢ Unfinished)
     unfolding written
     writing_finished =
-        let same : Written (length (sheet_text v a)) ≡ Written n = sym (ap (λ (o : Outcome). o.result) is_written) ∙ h in
+        let same : Ok (length (sheet_text v a)) ≡ Ok n = sym (ap (λ (o : Outcome). o.result) is_written) ∙ h in
         let long : length (sheet_text v a) ≡ n = cc in
         (rw (is_written, ← long) (take-append_seam (sheet_text v a) (drop (length (sheet_text v a)) text)), never_unfinished v row (v + 1) leads work fits (omega arith))
 
     -- closing accepts the list, and answers so
-    closes : (closing v c row (v + 1) leads work).result ≡ C.Accepted (summary a)
+    closes : (closing v c row (v + 1) leads work).result ≡ Ok (summary a)
     unfolding accepted
     closes =
         ap (λ (o : Closing.Outcome). o.result)
@@ -165,51 +162,51 @@ abbrev pub compare_aiger_numbers : List ℕ
 compare_aiger_numbers = AigerRefusals.reading_numbers ++ (13 ∷ [])
 
 -- The program for DIMACS text never answers 4, 8, 9 or 14.
-pub comparing_refusals : (input text : List ℕ) (r : Refusal) → (comparing input text).result ≡ Refused r → mem (number_of r) compare_numbers ≡ true
+pub comparing_refusals : (input text : List ℕ) (r : Refusal) → (comparing input text).result ≡ Err r → mem (number_of r) compare_numbers ≡ true
 unfolding comparing sheet_of Among all any mem is_among
 comparing_refusals input text r = go (reading input empty_row).result refl
   where
-    go : (x : Reading) → (reading input empty_row).result ≡ x → (sheet_of x (reading input empty_row).row text).result ≡ Refused r → mem (number_of r) compare_numbers ≡ true
-    go (R.Refused q) e h =
+    go : (x : Result ListSize Refusal) → (reading input empty_row).result ≡ x → (sheet_of x (reading input empty_row).row text).result ≡ Err r → mem (number_of r) compare_numbers ≡ true
+    go (Err q) e h =
         let same : q ≡ r = cc in
         in_mem compare_numbers (Memᴰ.append_left (13 ∷ []) (mem_in (number_of r) reading_numbers (rw same at (reading_refusals input empty_row (rw (length-replicate {A = ℤ} 32763 (pos 0)) (omega arith)) q e))))
-    go (R.Accepted s) e h =
+    go (Ok s) e h =
         writing_among s.nets s.clauses (take s.entries (reading input empty_row).row) text (read_within empty_row input s e).1 compare_numbers refl refl refl r h
 
 -- That for AIGER text never answers 4, 6 to 12 or 14.
-pub comparing_aiger_refusals : (input text : List ℕ) (r : Refusal) → (comparing_aiger input text).result ≡ Refused r → mem (number_of r) compare_aiger_numbers ≡ true
+pub comparing_aiger_refusals : (input text : List ℕ) (r : Refusal) → (comparing_aiger input text).result ≡ Err r → mem (number_of r) compare_aiger_numbers ≡ true
 unfolding comparing_aiger sheet_of Among any mem
 comparing_aiger_refusals input text r = go (Aiger.reading input empty_aiger_row).result refl
   where
-    go : (x : Reading) → (Aiger.reading input empty_aiger_row).result ≡ x → (sheet_of x (Aiger.reading input empty_aiger_row).row text).result ≡ Refused r
+    go : (x : Result ListSize Refusal) → (Aiger.reading input empty_aiger_row).result ≡ x → (sheet_of x (Aiger.reading input empty_aiger_row).row text).result ≡ Err r
         → mem (number_of r) compare_aiger_numbers ≡ true
-    go (R.Refused q) e h =
+    go (Err q) e h =
         let same : q ≡ r = cc in
         in_mem compare_aiger_numbers (Memᴰ.append_left (13 ∷ []) (mem_in (number_of r) AigerRefusals.reading_numbers (rw same at (AigerRefusals.reading_refusals_room input empty_aiger_row (rw (length-replicate {A = ℤ} 109222 (pos 0)) (omega arith)) q e))))
-    go (R.Accepted s) e h =
+    go (Ok s) e h =
         let row = take s.entries (Aiger.reading input empty_aiger_row).row in
         let none = none_holds_append (size_tests s.nets s.clauses row) (entry_tests s.nets s.clauses row) (AigerAnswers.read_tests input empty_aiger_row s e) in
         writing_among s.nets s.clauses row text (AigerAnswers.read_within empty_aiger_row input s e).1 compare_aiger_numbers
         (none_among compare_aiger_numbers (size_tests s.nets s.clauses row) none.0) (none_among compare_aiger_numbers (entry_tests s.nets s.clauses row) none.1) refl r h
 
 -- A sheet that is written is that of the text's list under round limit V + 1, which is never unfinished.
-pub comparing_finished : (input text : List ℕ) (n : ℕ) → (comparing input text).result ≡ Written n
-    → (s : ListSize) × ((reading input empty_row).result ≡ R.Accepted s)
+pub comparing_finished : (input text : List ℕ) (n : ℕ) → (comparing input text).result ≡ Ok n
+    → (s : ListSize) × ((reading input empty_row).result ≡ Ok s)
     × let a = answer s.nets (clauses_of (take s.entries (reading input empty_row).row)) (s.nets + 1) in
     (take n (comparing input text).text ≡ sheet_text s.nets a) × (a.verdict ≢ Unfinished)
 unfolding comparing sheet_of
 comparing_finished input text n = go (reading input empty_row).result refl
   where
-    go : (x : Reading) → (reading input empty_row).result ≡ x → (sheet_of x (reading input empty_row).row text).result ≡ Written n
-        → (s : ListSize) × (x ≡ R.Accepted s)
+    go : (x : Result ListSize Refusal) → (reading input empty_row).result ≡ x → (sheet_of x (reading input empty_row).row text).result ≡ Ok n
+        → (s : ListSize) × (x ≡ Ok s)
         × let a = answer s.nets (clauses_of (take s.entries (reading input empty_row).row)) (s.nets + 1) in
         (take n (sheet_of x (reading input empty_row).row text).text ≡ sheet_text s.nets a) × (a.verdict ≢ Unfinished)
-    go (R.Refused q) e h = let z : ◌≡◌ {A = ℕ} 0 1 = cc in absurd (omega arith)
-    go (R.Accepted s) e h =
+    go (Err q) e h = absurd cc
+    go (Ok s) e h =
         (s, refl, writing_finished s.nets s.clauses (take s.entries (reading input empty_row).row) text (read_within empty_row input s e).1 n h)
 
 -- The sheet of an AIGER text, which is a well-formed file, is that of its circuit.
-pub comparing-aiger : (input text : List ℕ) (n : ℕ) → (comparing_aiger input text).result ≡ Written n
+pub comparing-aiger : (input text : List ℕ) (n : ℕ) → (comparing_aiger input text).result ≡ Ok n
     → WellFormed input × CircuitSheet (circuit_of input) (take n (comparing_aiger input text).text)
 unfolding comparing_aiger sheet_of
 comparing-aiger input text n = go (Aiger.reading input empty_aiger_row).result refl
@@ -217,10 +214,10 @@ comparing-aiger input text n = go (Aiger.reading input empty_aiger_row).result r
     k : Circuit
     k = circuit_of input
 
-    go : (x : Reading) → (Aiger.reading input empty_aiger_row).result ≡ x → (sheet_of x (Aiger.reading input empty_aiger_row).row text).result ≡ Written n
+    go : (x : Result ListSize Refusal) → (Aiger.reading input empty_aiger_row).result ≡ x → (sheet_of x (Aiger.reading input empty_aiger_row).row text).result ≡ Ok n
         → WellFormed input × CircuitSheet k (take n (sheet_of x (Aiger.reading input empty_aiger_row).row text).text)
-    go (R.Refused q) e h = let z : ◌≡◌ {A = ℕ} 0 1 = cc in absurd (omega arith)
-    go (R.Accepted s) e h =
+    go (Err q) e h = absurd cc
+    go (Ok s) e h =
         let read = AigerAnswers.read_accepted input empty_aiger_row s e in
         let few = (AigerAnswers.read_within empty_aiger_row input s e).1 in
         let row = take s.entries (Aiger.reading input empty_aiger_row).row in

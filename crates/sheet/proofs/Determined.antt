@@ -203,8 +203,8 @@ leads_same v a b pa pb s e = go a.verdict refl
 
     go : (u : Verdict) → a.verdict ≡ u → a.leads ≡ b.leads
     go Contradiction k = pa.leads_none k ∙ sym (pb.leads_none (sym s ∙ k))
-    go Settled k = shown (λ q. let z : ◌≡◌ {A = ℕ} 0 1 = cc in omega arith) (rw (← s, k) at e)
-    go Unfinished k = shown (λ q. let z : ◌≡◌ {A = ℕ} 0 1 = cc in omega arith) (rw (← s, k) at e)
+    go Settled k = shown (λ q. cc) (rw (← s, k) at e)
+    go Unfinished k = shown (λ q. cc) (rw (← s, k) at e)
 
 answer-of : Verdict → ℕ → ℕ → ℕ → ℕ → ℕ → List ℕ → Answer
 answer-of w r x y z g ls = record { verdict = w; rounds = r; ands = x; xors = y; ites = z; groups = g; leads = ls }

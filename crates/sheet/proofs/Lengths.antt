@@ -1,6 +1,5 @@
 -- How long a sheet can be.
 -- Assumes nothing.
-use mathlib.Core.Path.{◌≡◌}
 use mathlib.Core.Logic.{◌≢◌}
 use mathlib.Core.List.{List, [], ◌∷◌}
 use Prim.Native.Nat.{ℕ, suc, ◌+◌, ◌*◌, ◌≤◌, ◌<◌}
@@ -77,9 +76,9 @@ leads_short : (w : Verdict) (leads : List ℕ) → (w ≢ Contradiction → AllS
 unfolding lead_lines net_lead_line
 leads_short Contradiction leads s h = omega arith
 leads_short Settled leads s h =
-    omega (arith, length-append net_lead_line (net_lines 1 leads), nets_short 1 (s (λ e. let z : ◌≡◌ {A = ℕ} 0 1 = cc in omega arith)) (omega arith))
+    omega (arith, length-append net_lead_line (net_lines 1 leads), nets_short 1 (s (λ e. cc)) (omega arith))
 leads_short Unfinished leads s h =
-    omega (arith, length-append net_lead_line (net_lines 1 leads), nets_short 1 (s (λ e. let z : ◌≡◌ {A = ℕ} 0 1 = cc in omega arith)) (omega arith))
+    omega (arith, length-append net_lead_line (net_lines 1 leads), nets_short 1 (s (λ e. cc)) (omega arith))
 
 -- a sheet for at most 1,024 nets fits the buffer that it asks for
 pub sheet_fits : (v : ℕ) (a : Answer) → (a.verdict ≢ Contradiction → AllSmall a.leads) → length a.leads ≤ 1024 → length (sheet_text v a) ≤ 16384

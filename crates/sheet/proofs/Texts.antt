@@ -8,7 +8,7 @@ use native.Mathlib.Numerals.{add-one}
 use native.Mathlib.Omega.{arith}
 use borrow.Author.Tests.{eq-eqb, ne_eqb}
 use lib.ListN.{length, get_or, take, drop, length-append, take-append-drop}
-use lib.Seq.{take-suc, take_all, length-take-le, drop-cons}
+use lib.Seq.{take-suc, length-take-le, drop-cons}
 use Rattle.clauses.specs.Bytes.{comma, lf, minus}
 use Rattle.clauses.specs.Number.{decimal}
 use Rattle.clauses.specs.Sign.{is_inverse}
@@ -61,9 +61,6 @@ module _ (leads : List ℕ) (i : ℕ) where
       let line : net_lines (1 + length (take i leads)) (drop i leads) ≡ net_line (i + 1) (get_or leads i 0) ++ net_lines (suc (i + 1)) (drop (suc i) leads)
       = rw (drop-cons leads i 0 h, length-take-le i leads (omega arith)) (ap (λ (k : ℕ). net_line k (get_or leads i 0) ++ net_lines (suc k) (drop (suc i) leads)) (omega arith)) in
       omega (arith, all, length-append (net_lines 1 (take i leads)) (net_lines (1 + length (take i leads)) (drop i leads)), ap length line, length-append (net_line (i + 1) (get_or leads i 0)) (net_lines (suc (i + 1)) (drop (suc i) leads)))
-
-  pub nets_full : length leads ≤ i → net_lines 1 (take i leads) ≡ net_lines 1 leads
-  nets_full h = rw (take_all i leads h)
 
 abbrev word : ℕ → ℕ → ℕ
 word n end = length (decimal n ++ (end ∷ []))

@@ -1,5 +1,6 @@
 -- What `write` answers, by its tests, by what closing hands over and by what is put into the buffer.
 -- Assumes nothing.
+use Rattle.std.specs.Prelude.{Result, Ok, Err}
 use mathlib.Core.Path.{◌≡◌, refl, sym, ◌∙◌, ap, subst}
 use mathlib.Core.Logic.{◌≢◌}
 use mathlib.Core.List.{List, [], ◌∷◌, ◌++◌}
@@ -15,7 +16,6 @@ use Rattle.clauses.specs.Refusal.{decide}
 use Rattle.clauses.specs.Writing.{Wrote}
 use Rattle.clauses.specs.declared.refusal.Refusal.{Refusal}
 use Rattle.clauses.specs.declared.refusal.Refusal.TheVariants.{BufferTooShort}
-use Rattle.clauses.specs.declared.checks.Check.TheVariants as K
 use Rattle.clauses.proofs.Fitting.{entries_fit}
 use Rattle.clauses.proofs.Tests.{decide_append, decide_passed, decide_refused}
 use Rattle.rules.specs.declared.Verdict.{Verdict}
@@ -24,13 +24,10 @@ use Rattle.rules.specs.Grouping.{After, Closure}
 use Rattle.rules.specs.Answer.{Answer, Lead, to_false, to_true, lowest, Leads, on_contradiction, otherwise, IsAnswer}
 use Rattle.rules.specs.Compute.{answer}
 use Rattle.closure.specs.declared.close.Summary.{Summary}
-use Rattle.closure.specs.declared.close.Closing.{Closing as Closed}
-use Rattle.closure.specs.declared.close.Closing.TheVariants as C
 use Rattle.closure.specs.Closing as Closing
 use Rattle.closure.specs.Closing.{list_tests, check_list, too_many_rounds, closing, accepted, Answers}
 use Rattle.closure.proofs.ClosingTests.{closing_rounds, rounds_accepted, never_too_many, list_passed}
 use Rattle.closure.proofs.ClosingTheorems.{answers_is, closing_exact, leads_length}
-use Rattle.sheet.specs.declared.write.Writing.TheVariants.{Written}
 use Rattle.sheet.specs.Sheet.{sheet_text, answer_of}
 use Rattle.sheet.specs.Writing.{min_buffer, sheet_buffer_too_short, refused, written, writing_tests, writing}
 use Rattle.sheet.proofs.Lengths.{AllSmall, none, more, Small, sheet_fits}
@@ -61,13 +58,13 @@ module _ (v c : ℕ) (row : List ℤ) (limit : ℕ) (leads work text : List ℕ)
   abbrev a : Answer
   a = answer v (clauses_of row) limit
 
-  pub writing_list : (r : Refusal) → check_list v c row (length leads) (length work) ≡ K.Refused r → writing v c row limit leads work text ≡ refused leads work text r
+  pub writing_list : (r : Refusal) → check_list v c row (length leads) (length work) ≡ Err r → writing v c row limit leads work text ≡ refused leads work text r
   unfolding writing writing_tests check_list
   writing_list r h =
       decide_append (refused leads work text) (written v leads work text a) (list_tests v c row (length leads) (length work)) (sheet_buffer_too_short text ∷ too_many_rounds v a ∷ [])
       ∙ decide_refused (refused leads work text) _ (list_tests v c row (length leads) (length work)) r h
 
-  module _ (h : check_list v c row (length leads) (length work) ≡ K.Passed) where
+  module _ (h : check_list v c row (length leads) (length work) ≡ Ok tt) where
     behind_list : writing v c row limit leads work text ≡ decide (refused leads work text) (written v leads work text a) (sheet_buffer_too_short text ∷ too_many_rounds v a ∷ [])
     unfolding writing writing_tests check_list
     behind_list =
@@ -89,14 +86,13 @@ module _ (v c : ℕ) (row : List ℤ) (limit : ℕ) (leads work text : List ℕ)
     writing_written k = behind_list ∙ rw (le-ltb _ _ k, le-ltb _ _ (never_too_many v row limit leads work fits))
 
     -- closing does not refuse
-    pub closes_not : (x : Closed) (L W : List ℕ) → record { result = x; leads = L; work = W } ≡ closing v c row limit leads work → (r : Refusal) → x ≡ C.Refused r → ⊥
+    pub closes_not : (x : Result Summary Refusal) (L W : List ℕ) → record { result = x; leads = L; work = W } ≡ closing v c row limit leads work → (r : Refusal) → x ≡ Err r → ⊥
     unfolding accepted
     closes_not x L W e r q =
-        let same : C.Refused r ≡ C.Accepted (Closing.summary a) = sym q ∙ ap (λ (o : Closing.Outcome). o.result) (e ∙ closes) in
-        let z : ◌≡◌ {A = ℕ} 0 1 = cc in
-        omega arith
+        let same : Err r ≡ Ok (Closing.summary a) = sym q ∙ ap (λ (o : Closing.Outcome). o.result) (e ∙ closes) in
+        cc
 
-    module _ (x : Closed) (L W : List ℕ) (e : record { result = x; leads = L; work = W } ≡ closing v c row limit leads work) (s : Summary) (q : x ≡ C.Accepted s) where
+    module _ (x : Result Summary Refusal) (L W : List ℕ) (e : record { result = x; leads = L; work = W } ≡ closing v c row limit leads work) (s : Summary) (q : x ≡ Ok s) where
       handed : Answers v c row limit leads work (answer_of s (take v L))
       handed =
           record {
@@ -132,7 +128,7 @@ module _ (v c : ℕ) (row : List ℤ) (limit : ℕ) (leads work text : List ℕ)
           omega (arith, sheet_fits v (answer_of s (take v L)) (leads_small (clauses_of row) s.rounds b exact.leads) (omega (arith, leads_many)))
 
       pub writing_done : min_buffer ≤ length text → (n : ℕ) (T : List ℕ) → Wrote text 0 (sheet_text v (answer_of s (take v L))) T n
-          → record { result = Written n; leads = L; work = W; text = T } ≡ writing v c row limit leads work text
+          → record { result = Ok n; leads = L; work = W; text = T } ≡ writing v c row limit leads work text
       unfolding written accepted
       writing_done k n T w =
           rw (rows, ap (λ (o : Closing.Outcome). o.work) (e ∙ closes), w.end ∙ z, content, is_answer) (sym (writing_written k))

@@ -1,18 +1,16 @@
 -- What the programs answer to a text: the sheet of its list under round limit V + 1.
 -- Assumes nothing.
-use Rattle.std.specs.Prelude.{List, ℕ, ◌+◌, ℤ, pos, take, replicate}
-use Rattle.clauses.specs.declared.reading.Reading.{Reading}
-use Rattle.clauses.specs.declared.reading.Reading.TheVariants as R
+use Rattle.std.specs.Prelude.{Result, Ok, Err, List, ℕ, ◌+◌, ℤ, pos, take, replicate}
+use Rattle.clauses.specs.declared.reading.ListSize.{ListSize}
+use Rattle.clauses.specs.declared.refusal.Refusal.{Refusal}
 use Rattle.clauses.specs.Reading.{reading}
 use Rattle.aiger.specs.Reading as Aiger
 use Rattle.closure.specs.Closing.{max_work}
 use Rattle.sheet.specs.Writing.{writing}
-use Rattle.sheet.specs.declared.write.Writing.{Writing}
-use Rattle.sheet.specs.declared.write.Writing.TheVariants.{Refused}
 
 -- what it answers, and what the lent buffer then holds
 pub record Outcome : Type 0 where
-  pub result : Writing
+  pub result : Result ℕ Refusal
   pub text : List ℕ
 
 -- a literal row with room for the numbers of any DIMACS text of at most 65,536 bytes
@@ -20,9 +18,9 @@ abbrev pub empty_row : List ℤ
 empty_row = replicate 32763 (pos 0)
 
 -- the sheet of what was read, under round limit V + 1, or why it is turned away
-unfoldable pub sheet_of : Reading → List ℤ → List ℕ → Outcome
-sheet_of (R.Refused r) row text = record { result = Refused r; text = text }
-sheet_of (R.Accepted s) row text =
+unfoldable pub sheet_of : Result ListSize Refusal → List ℤ → List ℕ → Outcome
+sheet_of (Err r) row text = record { result = Err r; text = text }
+sheet_of (Ok s) row text =
     let o = writing s.nets s.clauses (take s.entries row) (s.nets + 1) (replicate 1024 0) (replicate max_work 0) text in
     record { result = o.result; text = o.text }
 

@@ -1,6 +1,6 @@
 -- What the sheet's entry point answers to a clause list, and what the lent rows and the buffer then hold.
 -- Assumes nothing.
-use Rattle.std.specs.Prelude.{List, [], ◌∷◌, ◌++◌, ℕ, ltb, ℤ, length, drop}
+use Rattle.std.specs.Prelude.{Result, Ok, Err, List, [], ◌∷◌, ◌++◌, ℕ, ltb, ℤ, length, drop}
 use Rattle.clauses.specs.Clause.{clauses_of}
 use Rattle.clauses.specs.Refusal.{Test, decide}
 use Rattle.clauses.specs.declared.refusal.Refusal.{Refusal}
@@ -9,8 +9,6 @@ use Rattle.rules.specs.Answer.{Answer}
 use Rattle.rules.specs.Compute.{answer}
 use Rattle.closure.specs.Closing.{accepted, list_tests, too_many_rounds}
 use Rattle.sheet.specs.Sheet.{sheet_text}
-use Rattle.sheet.specs.declared.write.Writing.{Writing}
-use Rattle.sheet.specs.declared.write.Writing.TheVariants.{Written, Refused}
 
 -- bytes that the buffer of a sheet must have
 abbrev pub min_buffer : ℕ
@@ -22,20 +20,20 @@ sheet_buffer_too_short text = record { holds = ltb (length text) min_buffer; ref
 
 -- what it answers, and what the lent lead row, work row and text buffer then hold
 pub record Outcome : Type 0 where
-  pub result : Writing
+  pub result : Result ℕ Refusal
   pub leads : List ℕ
   pub work : List ℕ
   pub text : List ℕ
 
 -- 'Everything lent keeps its contents.'
 unfoldable pub refused : List ℕ → List ℕ → List ℕ → Refusal → Outcome
-refused leads work text r = record { result = Refused r; leads = leads; work = work; text = text }
+refused leads work text r = record { result = Err r; leads = leads; work = work; text = text }
 
 -- 'printing and the sheet answer the bytes written; what was lent past that keeps its contents'; the rows are as closing leaves them
 unfoldable pub written : ℕ → List ℕ → List ℕ → List ℕ → Answer → Outcome
 written v leads work text a =
     record {
-      result = Written (length (sheet_text v a));
+      result = Ok (length (sheet_text v a));
       leads = (accepted v leads work a).leads;
       work = (accepted v leads work a).work;
       text = sheet_text v a ++ drop (length (sheet_text v a)) text;

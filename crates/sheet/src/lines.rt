@@ -1,6 +1,6 @@
 // The lines of the sheet, put into a lent buffer one after another.
 
-ghost use Rattle.std.specs.Prelude.{[], ◌++◌, ◌+◌, ◌≤◌, ◌<◌, length};
+ghost use Rattle.std.specs.Prelude.{◌≡◌, [], ◌++◌, ◌+◌, ◌≤◌, ◌<◌, length};
 ghost use Rattle.clauses.specs.Writing.{Wrote};
 ghost use Rattle.sheet.specs.Sheet.{numbers_text, verdict_text, values_line, lead_text, net_line, net_lead_line, net_lines, lead_lines, sheet_text, answer_of};
 
@@ -8,15 +8,15 @@ use clauses::writing::{put, put_bytes, put_decimal, put_word};
 use closure::close::Summary;
 use rules::Verdict;
 
-// Puts a verdict.
-fn put_verdict(text: &mut [u8], at: usize, verdict: Verdict) -> usize
-    requires { at + length (verdict_text verdict) ≤ length text.old }
-    ensures { Wrote text.old at (verdict_text verdict) text.new result }
+// The verdict's name.
+#[tactic(auto, unfolding(crate::specs::Sheet::verdict_text))]
+fn verdict_name(verdict: Verdict) -> &'static [u8]
+    ensures { result.now ≡ verdict_text verdict }
 {
     match verdict {
-        Verdict::Contradiction => put_bytes(text, at, b"contradiction"),
-        Verdict::Settled => put_bytes(text, at, b"settled"),
-        Verdict::Unfinished => put_bytes(text, at, b"unfinished"),
+        Verdict::Contradiction => b"contradiction",
+        Verdict::Settled => b"settled",
+        Verdict::Unfinished => b"unfinished",
     }
 }
 
@@ -38,8 +38,7 @@ fn put_values(text: &mut [u8], at: usize, v: u32, s: Summary) -> usize
     requires { at + length (values_line v (answer_of s [])) ≤ length text.old }
     ensures { Wrote text.old at (values_line v (answer_of s [])) text.new result }
 {
-    let verdict = s.verdict;
-    let end = put_verdict(text, at, verdict);
+    let end = put_bytes(text, at, verdict_name(s.verdict));
     let numbers = put(text, end, b',');
     put_numbers(text, numbers, v, s)
 }
@@ -79,12 +78,8 @@ fn put_nets(text: &mut [u8], at: usize, leads: &[u32]) -> usize
     ensures { Wrote text.old at (net_lines 1 leads.now) text.new result }
 {
     let mut next = at;
-    let mut i = 0;
-    let mut w: u32 = 1;
-    while i < leads.len() {
-        next = put_net(text, next, w, leads[i]);
-        w += 1;
-        i += 1;
+    for (i, lead) in leads.iter().enumerate() {
+        next = put_net(text, next, i as u32 + 1, *lead);
     }
     next
 }
@@ -107,8 +102,7 @@ fn put_leads(text: &mut [u8], at: usize, verdict: Verdict, leads: &[u32]) -> usi
 {
     match verdict {
         Verdict::Contradiction => at,
-        Verdict::Settled => put_table(text, at, leads),
-        Verdict::Unfinished => put_table(text, at, leads),
+        Verdict::Settled | Verdict::Unfinished => put_table(text, at, leads),
     }
 }
 
@@ -118,8 +112,7 @@ pub fn put_sheet(text: &mut [u8], v: u32, s: Summary, leads: &[u32]) -> usize
     requires leads_len_bound { length leads.now < 4294967295 }
     ensures { Wrote text.old 0 (sheet_text v (answer_of s leads.now)) text.new result }
 {
-    let verdict = s.verdict;
     let values = put_bytes(text, 0, b"verdict,rounds,variables,ands,xors,ites,groups\n");
     let table = put_values(text, values, v, s);
-    put_leads(text, table, verdict, leads)
+    put_leads(text, table, s.verdict, leads)
 }

@@ -1,32 +1,29 @@
-use mathlib.Core.Path.{refl, sym, ◌∙◌}
+use mathlib.Core.Path.{sym, ◌∙◌}
 use native.Mathlib.Omega.{arith}
-use Rattle.aiger.proofs.AndLines.{and_none, and_some, scan_starts, scan_ends, scan_breaks, scan_ready, scan_steps}
+use Rattle.aiger.proofs.AndLines.{scan_starts, scan_ends, scan_breaks, scan_ready, scan_room, scan_goes_on, scan_steps}
 use Rattle.aiger.proofs.ands.scan_ands.Goals as goal
+use Rattle.aiger.proofs.ands.scan_ands.Goals.{then-is_ok, else-is_ok}
 
-pub loop-i-init : goal.loop-i-init
-loop-i-init c = (
-  rw c.start.ensures (scan_starts c.args.m c.args.text.now c.args.count c.args.from c.args.inputs c.args.keys.now c.args.kept.now c.args.links.now c.requires.tree c.requires.inputs_bound.0 c.requires.inputs_bound.1),
-  refl,
-  refl,
-  refl,
-)
+pub loop-init : goal.loop-init
+loop-init c = scan_starts c.args.header.nets c.args.text.now c.args.header.ands c.args.from c.args.tree.now c.args.entries.now c.requires.lines_in_bounds.0 c.requires.lines_in_bounds.1
 
 pub returns-in_default : goal.returns-in_default
-returns-in_default c =
-    scan_breaks c.args.m c.args.text.now c.args.count c.args.from c.args.inputs c.args.keys.now c.args.kept.now c.loop-i.scan c.loop-i.keys c.loop-i.links c.loop-i.kept c.loop-i.at c.loop-i.i c.loop-i.invariant.0 c.loop-i-test.true (and_none _ (sym c.read_and.ensures ∙ c.in_default.is))
+returns-in_default c = scan_breaks c.args.header.nets c.args.text.now c.args.header.ands c.args.from c.args.tree.now c.args.entries.now c.loop.outputs c.loop.tree c.loop.entries c.loop.at c.loop.counter c.loop.invariant c.loop-test.true (sym c.read_and.ensures ∙ c.in_default.is)
 
-pub take_and-scan-requires : goal.take_and-scan-requires
-take_and-scan-requires c =
-    scan_ready c.args.m c.args.text.now c.args.count c.args.from c.args.inputs c.args.keys.now c.args.kept.now c.loop-i.scan c.loop-i.keys c.loop-i.links c.loop-i.kept c.loop-i.at c.loop-i.i c.loop-i.invariant.0 c.loop-i-test.true _ _ (and_some _ _ _ (sym c.read_and.ensures ∙ c.in-Gate.is)) (omega arith) (omega (arith, c.loop-i.invariant.1, c.requires.inputs_bound.2))
+pub take_and-outputs-requires-clause-ready : goal.take_and-outputs-requires-clause-ready
+take_and-outputs-requires-clause-ready c =
+    scan_ready c.args.header.nets c.args.text.now c.args.header.ands c.args.from c.args.tree.now c.args.entries.now c.loop.outputs c.loop.tree c.loop.entries c.loop.at c.loop.counter c.loop.invariant c.loop-test.true _ (sym c.read_and.ensures ∙ c.in-Some.is) (sym c.if-is_ok.ensures.value) (omega arith) c.requires.none_made
 
-pub loop-i-preserved : goal.loop-i-preserved
-loop-i-preserved c = (
-  scan_steps c.args.m c.args.text.now c.args.count c.args.from c.args.inputs c.args.keys.now c.args.kept.now c.loop-i.scan c.loop-i.keys c.loop-i.links c.loop-i.kept c.loop-i.at c.loop-i.i c.loop-i.invariant.0 c.loop-i-test.true _ _ (and_some _ _ _ (sym c.read_and.ensures ∙ c.in-Gate.is)) _ _ _ _ (omega (arith, c.loop-i.invariant.1, c.requires.inputs_bound.2)) c.take_and-scan.ensures,
-  c.take_and-scan.auto.keys ∙ c.loop-i.invariant.1,
-  c.take_and-scan.auto.links ∙ c.loop-i.invariant.2,
-  c.take_and-scan.auto.kept ∙ c.loop-i.invariant.3,
-)
+pub take_and-outputs-requires-clause-room : goal.take_and-outputs-requires-clause-room
+take_and-outputs-requires-clause-room c =
+    omega (arith, c.requires.lines_in_bounds.2, scan_room c.args.header.nets c.args.text.now c.args.header.ands c.args.from c.args.tree.now c.args.entries.now c.loop.outputs c.loop.tree c.loop.entries c.loop.at c.loop.counter c.loop.invariant c.loop-test.true _ (sym c.read_and.ensures ∙ c.in-Some.is) (sym c.if-is_ok.ensures.value))
+
+pub loop-preserved : goal.loop-preserved
+loop-preserved c =
+    elim c.if-is_ok.branch [
+      | then-is_ok w ↦ rw (w.outputs-is, w.tree-is, w.entries-is) (scan_steps c.args.header.nets c.args.text.now c.args.header.ands c.args.from c.args.tree.now c.args.entries.now c.loop.outputs c.loop.tree c.loop.entries c.loop.at c.loop.counter c.loop.invariant c.loop-test.true _ (sym c.read_and.ensures ∙ c.in-Some.is) (sym c.is_ok.ensures.value ∙ w.if-is_ok.true) _ _ _ w.take_and-outputs.ensures)
+      | else-is_ok w ↦ rw (w.outputs-is, w.tree-is, w.entries-is) (scan_goes_on c.args.header.nets c.args.text.now c.args.header.ands c.args.from c.args.tree.now c.args.entries.now c.loop.outputs c.loop.tree c.loop.entries c.loop.at c.loop.counter c.loop.invariant c.loop-test.true _ (sym c.read_and.ensures ∙ c.in-Some.is) (sym c.is_ok.ensures.value ∙ w.if-is_ok.false))
+    ]
 
 pub returns : goal.returns
-returns c =
-    scan_ends c.args.m c.args.text.now c.args.count c.args.from c.args.inputs c.args.keys.now c.args.kept.now c.loop-i.scan c.loop-i.keys c.loop-i.links c.loop-i.kept c.loop-i.at c.loop-i.i c.loop-i.invariant.0 c.loop-i-test.false
+returns c = scan_ends c.args.header.nets c.args.text.now c.args.header.ands c.args.from c.args.tree.now c.args.entries.now c.loop.outputs c.loop.tree c.loop.entries c.loop.at c.loop.counter c.loop.invariant c.loop-test.false

@@ -1,29 +1,21 @@
 use mathlib.Core.Path.{refl}
 use native.Mathlib.Omega.{arith}
-use lib.ListN.{take}
+use Rattle.std.proofs.lemmas.Result.{err_from_is_err_and}
 use Rattle.clauses.specs.Reading.{refused}
-use Rattle.aiger.specs.Line.{and_lines}
-use Rattle.aiger.proofs.ReadingLines.{ands_faulty, ands_set, made_room, made_clauses_few, ands_made}
+use Rattle.aiger.proofs.ReadingLines.{ands_stopped, made_room, made_clauses_few, ands_made}
 use Rattle.aiger.proofs.reading.read_ands.Goals as goal
 
-pub put_clause-t-requires : goal.put_clause-t-requires
-put_clause-t-requires c =
-    (omega (arith, c.requires.output_bound), omega arith, omega arith, made_room c.args.row.now c.args.h.nets (take c.args.h.inputs c.args.keys.now) c.args.output (and_lines c.args.h.nets c.args.text.now c.args.h.ands c.args.from) _ _ _ c.scan_ands.ensures c.args.text.now c.args.h.ands c.args.from refl c.requires.inputs_bound.1 c.requires.inputs_bound.3 _ c.in-Made.is)
-
-pub overflow_cast-t : goal.overflow_cast-t
-overflow_cast-t c =
-    omega (arith, made_clauses_few c.args.row.now c.args.h.nets (take c.args.h.inputs c.args.keys.now) c.args.output (and_lines c.args.h.nets c.args.text.now c.args.h.ands c.args.from) _ _ _ c.scan_ands.ensures c.args.text.now c.args.h.ands c.args.from refl c.requires.inputs_bound.1 c.requires.inputs_bound.3 _ c.in-Made.is _ _ c.put_clause-t.ensures)
-
-pub returns-in-Faulty : goal.returns-in-Faulty
+pub returns-in_err-scan_ands : goal.returns-in_err-scan_ands
 unfolding refused
-returns-in-Faulty c =
-    ands_faulty c.args.row.now c.args.h.nets (take c.args.h.inputs c.args.keys.now) c.args.output (and_lines c.args.h.nets c.args.text.now c.args.h.ands c.args.from) _ _ _ c.scan_ands.ensures _ c.in-Faulty.is
+returns-in_err-scan_ands c =
+    let p = err_from_is_err_and c.from_residual.result c.from_residual.ensures.1 in
+    rw (p.1, p.2) (ands_stopped c.args.row.now c.args.header.nets c.args.tree.now c.args.output.value _ _ _ _ c.scan_ands.ensures _ c.in_err-scan_ands.was)
 
-pub returns-in-OutputSet : goal.returns-in-OutputSet
-unfolding refused
-returns-in-OutputSet c =
-    ands_set c.args.row.now c.args.h.nets (take c.args.h.inputs c.args.keys.now) c.args.output (and_lines c.args.h.nets c.args.text.now c.args.h.ands c.args.from) _ _ _ c.scan_ands.ensures _ c.in-OutputSet.is
+pub put_clause-requires-clause-room : goal.put_clause-requires-clause-room
+put_clause-requires-clause-room c = made_room c.args.row.now c.args.header.nets c.args.tree.now c.args.output.value _ _ _ _ c.scan_ands.ensures c.args.text.now c.args.header.ands c.args.output.next refl c.requires.inputs_bound.1 c.requires.inputs_bound.2 c.new-entries.ensures.1 c.new-entries.ensures.0 c.in_ok-scan_ands.was
 
-pub returns-in-Made : goal.returns-in-Made
-returns-in-Made c =
-    ands_made c.args.row.now c.args.h.nets (take c.args.h.inputs c.args.keys.now) c.args.output (and_lines c.args.h.nets c.args.text.now c.args.h.ands c.args.from) _ _ _ c.scan_ands.ensures c.args.text.now c.args.h.ands c.args.from refl c.requires.inputs_bound.1 c.requires.inputs_bound.3 _ c.in-Made.is _ _ c.put_clause-t.ensures _ c.read_numbers.ensures
+pub overflow_cast-tally : goal.overflow_cast-tally
+overflow_cast-tally c = omega (arith, made_clauses_few c.args.row.now c.args.header.nets c.args.tree.now c.args.output.value _ _ _ _ c.scan_ands.ensures c.args.text.now c.args.header.ands c.args.output.next refl c.requires.inputs_bound.1 c.requires.inputs_bound.2 c.new-entries.ensures.1 c.new-entries.ensures.0 c.in_ok-scan_ands.was _ c.put_clause.ensures)
+
+pub returns : goal.returns
+returns c = ands_made c.args.row.now c.args.header.nets c.args.tree.now c.args.output.value _ _ _ _ c.scan_ands.ensures c.args.text.now c.args.header.ands c.args.output.next refl c.requires.inputs_bound.1 c.requires.inputs_bound.2 c.new-entries.ensures.1 c.new-entries.ensures.0 c.in_ok-scan_ands.was _ c.put_clause.ensures _ c.read_numbers.ensures

@@ -1,3 +1,4 @@
+use Rattle.std.proofs.lemmas.Result.{err_from_is_err_and}
 use Rattle.clauses.proofs.ReadingTests.{body_refused, body_numbers, refused_is, scanned_numbers}
 use Rattle.clauses.proofs.Scans.{sets_keep}
 use Rattle.clauses.specs.Reading.{Outcome, body}
@@ -5,17 +6,19 @@ use Rattle.clauses.specs.Scanning.{numbers_of, scanned_from, words_from}
 use mathlib.Core.Path.{◌∙◌, ap, sym}
 use Rattle.clauses.proofs.reading.read_body.Goals as goal
 
-pub returns-in-Refused : goal.returns-in-Refused
+pub returns-in_err-tally : goal.returns-in_err-tally
 unfolding scanned_from
-returns-in-Refused c =
-    let s = c in record {
-      value = (refused_is s.args.row.now _
-          (body_refused s.args.row.now _ s.args.v ((words_from (s.args.text.now) s.args.from)) _ (sym c.scan_numbers.ensures.value ∙ c.in-Refused.is))).0;
-      row_after = (refused_is s.args.row.now _
-          (body_refused s.args.row.now _ s.args.v ((words_from (s.args.text.now) s.args.from)) _ (sym c.scan_numbers.ensures.value ∙ c.in-Refused.is))).1;
-    }
+returns-in_err-tally c =
+    let told = refused_is c.args.row.now _ (body_refused c.args.row.now c.args.header.sizes c.args.header.sizes.nets (words_from c.args.text.now c.args.header.body) _ (sym c.in_err-tally.ensures.value)) in
+    let p = err_from_is_err_and c.from_residual.result c.from_residual.ensures.1 in
+    record { value = rw (p.1, p.2) told.0; row_after = told.1 }
 
-pub returns-in-Numbers : goal.returns-in-Numbers
+pub returns : goal.returns
 unfolding scanned_from
-returns-in-Numbers c =
-    let s = c in let numbers = numbers_of ((words_from (s.args.text.now) s.args.from)) in let told = scanned_numbers s.args.v ((words_from (s.args.text.now) s.args.from)) _ (sym c.scan_numbers.ensures.value ∙ c.in-Numbers.is) in let same = body_numbers s.args.row.now (record { nets = s.args.v; clauses = s.args.c }) (body ((words_from (s.args.text.now) s.args.from))) _ told.0 in let done = c.read_numbers.ensures numbers (rw c.scan_numbers.ensures.kept_after (sets_keep _ numbers)) told.1 ∙ sym same in record { value = ap (λ (o : Outcome). o.result) done; row_after = ap (λ (o : Outcome). o.row) done }
+returns c =
+    let sizes = c.args.header.sizes in
+    let words = words_from c.args.text.now c.args.header.body in
+    let told = scanned_numbers sizes.nets words _ (sym c.in_ok-tally.ensures.value) in
+    let same = body_numbers c.args.row.now sizes (body words) _ told.0 in
+    let done = c.read_numbers.ensures (numbers_of words) (rw c.scan_numbers.ensures.kept_after (sets_keep _ (numbers_of words))) told.1 ∙ sym same in
+    record { value = ap (λ (o : Outcome). o.result) done; row_after = ap (λ (o : Outcome). o.row) done }

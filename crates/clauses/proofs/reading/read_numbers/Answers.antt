@@ -5,9 +5,10 @@ use Rattle.clauses.proofs.Tests.{sizes_within}
 use Rattle.clauses.specs.Reading.{accepted, refused}
 use Rattle.clauses.specs.Tally.{tally_of}
 use lib.IntN.{ℤ}
-use lib.ListN.{length}
+use lib.ListN.{length, length-take}
+use Rattle.std.proofs.lemmas.Result.{err_from_is_err_and}
 use mathlib.Core.List.{List}
-use mathlib.Core.Path.{◌∙◌, ◌≡◌, ap, sym}
+use mathlib.Core.Path.{◌≡◌, ap, sym}
 use native.Mathlib.Omega.{arith}
 use Rattle.clauses.proofs.reading.read_numbers.Goals as goal
 
@@ -23,32 +24,41 @@ pub returns-then-row-entries : goal.returns-then-row-entries
 unfolding refused
 returns-then-row-entries c numbers k e = sym (numbers_short c.args.row.now (record { nets = c.args.v; clauses = c.args.c }) numbers (omega (arith, count c.args.t c.args.v numbers e, c.if-row-entries.true)))
 
-pub returns-in-Refused : goal.returns-in-Refused
+pub returns-in_err-check_sizes : goal.returns-in_err-check_sizes
 unfolding refused
-returns-in-Refused c numbers k e =
-    sym (numbers_sizes c.args.row.now (record { nets = c.args.v; clauses = c.args.c }) numbers (room c.args.row.now c.args.t c.args.v numbers e c.if-row-entries.false) _ (rw (← count c.args.t c.args.v numbers e) (sym c.check_sizes-sizes.ensures ∙ c.in-Refused.is)))
+returns-in_err-check_sizes c numbers k e =
+    let p = err_from_is_err_and c.from_residual.result c.from_residual.ensures.1 in
+    rw (p.1, p.2)
+    (sym (numbers_sizes c.args.row.now (record { nets = c.args.v; clauses = c.args.c }) numbers (room c.args.row.now c.args.t c.args.v numbers e c.if-row-entries.false) _ (rw (← count c.args.t c.args.v numbers e) (sym c.in_err-check_sizes.ensures))))
 
-pub returns-in-Refused-numbers : goal.returns-in-Refused-numbers
+pub returns-in_err-check_entries : goal.returns-in_err-check_entries
 unfolding refused
-returns-in-Refused-numbers c numbers k e =
-    sym
+returns-in_err-check_entries c numbers k e =
+    let p = err_from_is_err_and c.from_residual-in_err-check_entries.result c.from_residual-in_err-check_entries.ensures.1 in
+    rw (p.1, p.2)
+    (sym
     (numbers_entries c.args.row.now (record { nets = c.args.v; clauses = c.args.c }) numbers (room c.args.row.now c.args.t c.args.v numbers e c.if-row-entries.false)
-    (rw (← count c.args.t c.args.v numbers e) (sym c.check_sizes-sizes.ensures ∙ c.in_default.is))
-    _ (rw (← e) (sym c.check_entries-numbers.ensures ∙ c.in-Refused-numbers.is)))
+    (rw (← count c.args.t c.args.v numbers e) (sym c.in_ok-check_sizes.ensures))
+    _ (rw (← e) (sym c.in_err-check_entries.ensures))))
 
-pub copy_entries-requires : goal.copy_entries-requires
-copy_entries-requires c =
-    let few = sizes_within c.args.v c.args.c c.args.t.entries (sym c.check_sizes-sizes.ensures ∙ c.in_default.is) in
-    (omega (arith, few.2, c.requires), c.if-row-entries.false)
+pub slice_bounds-copy_from_slice-end-3 : goal.slice_bounds-copy_from_slice-end-3
+slice_bounds-copy_from_slice-end-3 c =
+    let few = sizes_within c.args.v c.args.c c.args.t.entries (sym c.in_ok-check_sizes.ensures) in
+    omega (arith, few.2, c.requires, length-take c.args.t.entries c.args.kept.now)
+
+pub copy_from_slice-requires : goal.copy_from_slice-requires
+copy_from_slice-requires c =
+    let few = sizes_within c.args.v c.args.c c.args.t.entries (sym c.in_ok-check_sizes.ensures) in
+    omega (arith, few.2, c.requires, length-take c.args.t.entries c.args.kept.now, length-take c.args.t.entries c.args.row.now)
 
 pub returns : goal.returns
 unfolding accepted
 returns c numbers k e =
-    let sizes = sym c.check_sizes-sizes.ensures ∙ c.in_default.is in
+    let sizes = sym c.in_ok-check_sizes.ensures in
     let few = sizes_within c.args.v c.args.c c.args.t.entries sizes in
     let held = k (omega (arith, few.2, c.requires, count c.args.t c.args.v numbers e)) in
-    rw (c.copy_entries.ensures, count c.args.t c.args.v numbers e, held)
+    rw (c.copy_from_slice.ensures.after, count c.args.t c.args.v numbers e, held)
     (sym
     (numbers_accepted c.args.row.now (record { nets = c.args.v; clauses = c.args.c }) numbers (room c.args.row.now c.args.t c.args.v numbers e c.if-row-entries.false)
     (rw (← count c.args.t c.args.v numbers e) sizes)
-    (rw (← e) (sym c.check_entries-numbers.ensures ∙ c.in_default-numbers.is))))
+    (rw (← e) (sym c.in_ok-check_entries.ensures))))

@@ -60,4 +60,4 @@ returns c =
     let q = finder_left s.args.v s.args.row.now s.args.leads.now s.args.work.now s.requires.passed _ _ _
     f.ensures.entries_value f.ensures.codes_after f.ensures.found in
     steps_accepted s.args.v s.args.row.now s.args.limit s.args.leads.now s.args.work.now s.requires.passed _ _ _ _ _ _ q f.ensures.are_counts _ _ _ _ c.close_first-e.ensures _
-    (c.fill.ensures ∙ ap (λ (k : ℕ). replicate k 0) (length-take-le max_work s.args.work.now s.requires.passed.work_room))
+    (c.fill.ensures.after (λ y e. cc) ∙ ap (λ (k : ℕ). replicate k 0) (length-take-le max_work s.args.work.now s.requires.passed.work_room))

@@ -1,13 +1,8 @@
 use mathlib.Core.Path.{◌∙◌, ap}
 use Rattle.rules.specs.Answer.{lead_of}
-use Rattle.closure.proofs.Searches.{lead_true}
-use Rattle.closure.proofs.Going.{went_none, ready_joins}
+use Rattle.closure.proofs.Going.{ready_joins}
 use Rattle.closure.proofs.SideMates.{side_selected}
 use Rattle.closure.proofs.ite_mates.by_select.Goals as goal
-
-pub returns-then-lead_of-ne1 : goal.returns-then-lead_of-ne1
-returns-then-lead_of-ne1 c =
-    record { went = λ marks r i. went_none; joined = λ e. absurd (c.if-lead_of-ne1.true (c.lead_of.ensures ∙ ap (lead_of c.args.old.now) c.select_of.ensures ∙ e ∙ lead_true c.args.old.now)) }
 
 pub join-requires : goal.join-requires
 join-requires c = ready_joins c.requires.1

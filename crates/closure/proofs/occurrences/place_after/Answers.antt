@@ -7,6 +7,6 @@ pub returns-then-p-b : goal.returns-then-p-b
 unfolding around
 returns-then-p-b c = rw (eq-eqb c.args.p (c.args.b + 2) c.if-p-b.true)
 
-pub returns : goal.returns
+pub returns-else-p-b : goal.returns-else-p-b
 unfolding around
-returns c = rw (ne_eqb c.args.p (c.args.b + 2) c.if-p-b.false)
+returns-else-p-b c = rw (ne_eqb c.args.p (c.args.b + 2) c.if-p-b.false)

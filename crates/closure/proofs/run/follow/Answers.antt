@@ -9,20 +9,11 @@ returns-then-still c = rw c.end_with.ensures (Followed.settled (sym c.is_still-s
 pub returns-then-rounds-limit : goal.returns-then-rounds-limit
 returns-then-rounds-limit c = rw c.end_with-then-rounds-limit.ensures (Followed.stopped (sym c.is_still-still.ensures ∙ c.if-still.false) c.if-rounds-limit.true refl)
 
-pub overflow_add-rounds : goal.overflow_add-rounds
-overflow_add-rounds c = omega (arith, c.if-rounds-limit.false, c.requires.rounds_le_limit, c.well_formed)
-
 pub returns-then-t : goal.returns-then-t
 returns-then-t c =
     rw c.end_with-then-t.ensures
-    (Followed.clashed (sym c.is_still-still.ensures ∙ c.if-still.false) (omega (arith, c.if-rounds-limit.false, c.requires.rounds_le_limit)) c.if-t.true c.fill.ensures)
-
-pub copy_leads-requires : goal.copy_leads-requires
-copy_leads-requires c = sym c.requires.next_len.1
-
-pub overflow_add-result : goal.overflow_add-result
-overflow_add-result c = omega (arith, c.if-rounds-limit.false, c.requires.rounds_le_limit, c.well_formed)
+    (Followed.clashed (sym c.is_still-still.ensures ∙ c.if-still.false) (omega (arith, c.if-rounds-limit.false, c.requires.rounds_le_limit)) c.if-t.true (c.fill.ensures.after (λ y e. e)))
 
 pub returns : goal.returns
 returns c =
-    Followed.made (sym c.is_still-still.ensures ∙ c.if-still.false) (omega (arith, c.if-rounds-limit.false, c.requires.rounds_le_limit)) c.if-t.false c.copy_leads-2.ensures c.copy_leads.ensures
+    Followed.made (sym c.is_still-still.ensures ∙ c.if-still.false) (omega (arith, c.if-rounds-limit.false, c.requires.rounds_le_limit)) c.if-t.false c.copy_from_slice-2.ensures.after c.copy_from_slice.ensures.after

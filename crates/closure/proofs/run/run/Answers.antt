@@ -1,454 +1,164 @@
-use mathlib.Core.Path.{◌≡◌, refl, sym, ◌∙◌, ap}
+use mathlib.Core.Path.{refl, sym, ◌∙◌}
 use mathlib.Core.List.{List}
-use Prim.Native.Nat.{ℕ, ◌≤◌}
+use Prim.Native.Nat.{ℕ}
 use native.Mathlib.Omega.{arith}
 use lib.ListN.{length, take}
-use lib.Seq.{length-take-le}
-use Rattle.clauses.specs.Limit.{max_entries}
-use Rattle.clauses.proofs.Fills.{zero_at}
-use Rattle.closure.specs.Making.{fresh}
-use Rattle.closure.specs.KeptTables.{AndRows, XorRows, SideRows}
+use Rattle.clauses.specs.Clause.{clauses_in}
+use Rattle.closure.proofs.Holding.{unset_at}
+use Rattle.closure.specs.Making.{Making, fresh}
+use Rattle.closure.specs.RowJoined.{RowJoined}
+use Rattle.closure.specs.KeptTables.{Tables}
 use Rattle.closure.specs.Rounds.{Starting}
 use Rattle.closure.proofs.Going.{found_marked, went_then, ready_on}
 use Rattle.closure.proofs.RoundStarts.{found_nets, row_ready, row_making}
-use Rattle.closure.proofs.Loop.{between_sizes, is_over, loop_begins, few_made, next_starts, round_followed, fewer_left}
+use Rattle.closure.proofs.Loop.{between_sizes, loop_begins, next_starts, round_followed, fewer_left}
 use Rattle.closure.proofs.KeptRounds.{ands_known_on, xors_known_on, sides_known_on, round_joined}
-use Rattle.closure.proofs.KeptLoop.{and_rows, xor_rows, side_rows, Few, Rooms, rooms_list, rooms_heads, Prepared, prepared_kept, prepared_anew, side_groups, tables_left}
+use Rattle.closure.proofs.KeptLoop.{Prepared, prepared_kept, prepared_anew, side_groups, tables_left}
 use Rattle.closure.proofs.run.run.Goals as goal
-use Rattle.closure.proofs.run.run.Goals.{Joined-is_anew, then-is_anew, else-is_anew}
+use Rattle.closure.proofs.run.run.Goals.{Joined-is_anew, After-by_groups-t, then-is_anew, else-is_anew}
 
 -- Where the passes begin: the round can be made
-start : (j : Joined-is_anew) → Starting j.args.codes.now j.args.marks.now j.loop-s.older j.loop-s.leads j.loop-s.next j.loop-s.s.rounds j.loop-s.s.groups
-start j = let s = j.requires in next_starts s.found s.fits s.leads_len_bound.0 s.leads_len_bound.1 j.loop-s.invariant.0 j.loop-s-test.true
+start : (j : Joined-is_anew) → Starting j.args.codes.now j.args.marks.now j.loop-work.older j.loop-work.leads j.loop-work.next j.loop-work.s.rounds j.loop-work.s.groups
+start j = let s = j.requires in next_starts s.found s.fits s.leads_len_bound.0 s.leads_len_bound.1 j.loop-work.invariant.0
 
+-- the list that it goes over
 abbrev list_at : Joined-is_anew → List ℕ
 list_at j = take j.if-is_anew.work.clauses j.if-is_anew.list
 
-abbrev ands_at : Joined-is_anew → AndRows
-ands_at j = and_rows j.if-is_anew.slots j.loop-s.and_keys j.loop-s.and_slots j.loop-s.and_next j.if-is_anew.and_heads
-
-abbrev xors_at : Joined-is_anew → XorRows
-xors_at j = xor_rows j.if-is_anew.slots j.loop-s.xor_keys j.loop-s.xor_sums j.loop-s.xor_next j.if-is_anew.xor_heads
-
-abbrev sides_at : Joined-is_anew → SideRows
-sides_at j = side_rows j.if-is_anew.slots j.loop-s.sides j.loop-s.likes j.loop-s.mate_next j.if-is_anew.mate_heads j.loop-s.like_next j.if-is_anew.like_heads
-
 -- it finds the list and the tables prepared
 prepared : (j : Joined-is_anew)
-    → (j.if-is_anew.work.clauses ≤ max_entries) × Rooms j.loop-s.seen j.if-is_anew.list j.loop-s.held j.loop-s.holders (ands_at j) (xors_at j) (sides_at j) × Few j.if-is_anew.slots
-    × Prepared j.args.codes.now j.args.marks.now j.loop-s.older j.loop-s.leads j.loop-s.next (fresh j.loop-s.s.groups) (list_at j) (ands_at j) (xors_at j) (sides_at j)
+    → Prepared j.args.codes.now j.args.marks.now j.loop-work.older j.loop-work.leads j.loop-work.next (fresh j.loop-work.s.groups) (list_at j) j.if-is_anew.ands j.if-is_anew.xors j.if-is_anew.sides
 prepared j =
-    let l = j.loop-s in
-    let v = l.invariant in
-    let r = v.1 in
-    let e = j.list_changed-work.ensures in
-    let size = j.list_changed-work.auto.list ∙ r.list_room in
+    let e = rw j.index_row-occurrences.ensures.row at j.list_changed-work.ensures in
     elim j.if-is_anew.branch [
       | then-is_anew w ↦
           let f = w.list_all-work.ensures in
-          let room =
-          rooms_heads _ _ _ _ r (w.list_all-work.auto.list ∙ size) (w.fill.auto.row ∙ r.and_heads) (w.fill-then-is_anew.auto.row ∙ r.xor_heads) (w.fill-then-is_anew-2.auto.row ∙ r.mate-heads)
-          (w.fill-then-is_anew-3.auto.row ∙ r.like-heads) in
-          rw (w.list-is, w.and_heads-is, w.xor_heads-is, w.mate_heads-is, w.like_heads-is, w.slots-is, w.work-is) (
-            omega (arith, f.list.0, size),
-            room,
-            (omega arith, omega arith, omega arith),
-            prepared_anew (start j) f.list.1 _ f.list.2 f.holds f.room refl refl refl (length l.and_heads) w.fill.ensures (length l.xor_heads) w.fill-then-is_anew.ensures (length l.mate_heads) w.fill-then-is_anew-2.ensures
-                (length l.like_heads) w.fill-then-is_anew-3.ensures room,
-          )
+          let c = w.clear-then-is_anew-2.ensures in
+          rw (w.list-is, w.ands-is, w.xors-is, w.sides-is, w.work-is)
+          (prepared_anew (start j) f.list.1 _ f.list.2 f.holds f.room w.clear.ensures w.clear-then-is_anew.ensures c.count (c.table _ _ _))
       | else-is_anew w ↦
           let k = j.is_anew.ensures w.if-is_anew.false in
-          rw (w.list-is, w.and_heads-is, w.xor_heads-is, w.mate_heads-is, w.like_heads-is, w.slots-is, w.work-is) (
-            omega (arith, e.list.0, r.list_room),
-            rooms_list r size,
-            v.4,
-            prepared_kept (start j) e.list.1 _ e.list.2 k.0 l.slots refl refl refl k.1 (e.holds _ j.index_row.ensures) (v.5 j.loop-s-test.true k.0),
-          )
+          rw (w.list-is, w.ands-is, w.xors-is, w.sides-is, w.work-is)
+          (prepared_kept (start j) e.list.1 _ e.list.2 k.0 k.1 (e.holds _ j.index_row-occurrences.ensures.index) (j.loop-work.invariant.3 k.0))
     ]
 
-pub index_row-requires : goal.index_row-requires
-index_row-requires c =
-    let s = c.requires in record { ended = (s.found.ended, s.found.size, s.leads_len_bound.1); codes_in_bounds = (s.leads_len_bound.1, s.leads_len_bound.1, s.leads_len_bound.1); by_index = λ q. omega (arith, found_nets s.found s.fits q, s.leads_len_bound.0) }
+pub index_row-occurrences-requires-clause-by_index : goal.index_row-occurrences-requires-clause-by_index
+index_row-occurrences-requires-clause-by_index c = λ q. omega (arith, found_nets c.requires.found c.requires.fits q, c.requires.leads_len_bound.0)
 
-pub chain_hubs-requires : goal.chain_hubs-requires
-chain_hubs-requires c =
-    let s = c.requires in record { marked_of_some = (_, found_marked s.found); hubs_nonzero = (omega arith, omega (arith, s.leads_len_bound.1), omega arith) }
+pub chain-requires : goal.chain-requires
+chain-requires c = (omega arith, ((_, found_marked c.requires.found), (omega arith, omega (arith, c.requires.leads_len_bound.1), omega arith)))
 
-pub loop-s-init : goal.loop-s-init
-loop-s-init c =
-    let s = c in
-    let p = s.requires in (
-      loop_begins s.args.codes.now s.args.marks.now s.args.limit s.args.leads.now s.args.next.now s.args.older.now _ p.leads_value.0 p.leads_value.1 p.leads_value.2 refl refl refl,
-      record {
-        seen_room = refl;
-        list_room = refl;
-        held_room = refl;
-        holders_room = refl;
-        and_keys = refl;
-        and_slots = refl;
-        and_next = refl;
-        and_heads = refl;
-        xor_keys = refl;
-        xor_sums = refl;
-        xor_next = refl;
-        xor_heads = refl;
-        sides = refl;
-        likes = refl;
-        mate-next = refl;
-        mate-heads = refl;
-        like-next = refl;
-        like-heads = refl;
-      },
-      λ q. zero_at 16384 q,
-      (λ x. zero_at 2050 x, omega arith),
-      (omega arith, omega arith, omega arith),
-      λ m z. absurd (z refl),
+pub loop-work-init : goal.loop-work-init
+loop-work-init c =
+    let p = c.requires.leads_value in
+    (loop_begins _ _ _ _ _ _ _ p.0 p.1 p.2 refl refl, λ q. unset_at 16384 q, (λ x. unset_at 2050 x, omega arith), λ z. absurd (z refl))
+
+pub list_changed-work-requires-clause-older_len : goal.list_changed-work-requires-clause-older_len
+list_changed-work-requires-clause-older_len c =
+    let s = c.requires in
+    let z = between_sizes c.loop-work.invariant.0 in
+    rw c.index_row-occurrences.ensures.row (z.2 ∙ sym z.0, λ q. omega (arith, found_nets s.found s.fits q, z.0), omega (arith, z.0, s.leads_len_bound.0, c.index_row-occurrences.ensures.nets))
+
+pub by_clauses-units-requires-clause-ready : goal.by_clauses-units-requires-clause-ready
+by_clauses-units-requires-clause-ready c = row_ready (start (goal.at.by_clauses-units-requires-clause-ready c).Joined-is_anew)
+
+pub by_clauses-units-requires-clause-are_starts : goal.by_clauses-units-requires-clause-are_starts
+by_clauses-units-requires-clause-are_starts c = (prepared (goal.at.by_clauses-units-requires-clause-are_starts c).Joined-is_anew).starts
+
+pub by_ands-outputs-requires-clause-ready : goal.by_ands-outputs-requires-clause-ready
+by_ands-outputs-requires-clause-ready c = ready_on (row_ready (start (goal.at.by_ands-outputs-requires-clause-ready c).Joined-is_anew)) c.by_clauses-units.ensures.went
+
+pub by_ands-outputs-requires-clause-are_starts : goal.by_ands-outputs-requires-clause-are_starts
+by_ands-outputs-requires-clause-are_starts c = (prepared (goal.at.by_ands-outputs-requires-clause-are_starts c).Joined-is_anew).starts
+
+pub by_and_pairs-pairs-requires : goal.by_and_pairs-pairs-requires
+by_and_pairs-pairs-requires c =
+    let j = (goal.at.by_and_pairs-pairs-requires c).Joined-is_anew in
+    let p = prepared j in
+    let w = went_then c.by_clauses-units.ensures.went c.by_ands-outputs.ensures.went in (
+      omega arith,
+      (
+        ready_on (row_ready (start j)) w,
+        (
+          p.starts,
+          (
+            p.tables.and_table,
+            (
+              ands_known_on w.later p.tables.ands_known,
+              (omega (arith, p.and_room), omega arith, c.by_ands-outputs.ensures.blank),
+            ),
+          ),
+        ),
+      ),
     )
 
-pub list_changed-work-requires : goal.list_changed-work-requires
-list_changed-work-requires c =
-    let s = c.requires in let l = c.loop-s.invariant in let z = between_sizes l.0 in let i = c.index_row in record { by_index = ((_, i.ensures), s.found.ended); older_len = (z.2 ∙ sym z.0, λ q. omega (arith, found_nets s.found s.fits q, z.0), omega (arith, z.0, s.leads_len_bound.0, i.auto.occurs)); codes_in_bounds = (omega (arith, s.leads_len_bound.1, l.1.seen_room), omega (arith, s.leads_len_bound.1, l.1.list_room), omega (arith, s.leads_len_bound.1)); by_index_2 = l.2 }
-
-pub is_anew-requires : goal.is_anew-requires
-is_anew-requires c = let few = c.loop-s.invariant.4 in (few.0, few.1, few.2, omega (arith, c.list_changed-work.ensures.room, c.requires.leads_len_bound.1))
-
-pub list_all-work-requires : goal.list_all-work-requires
-list_all-work-requires c =
-    let s = c.requires in (s.found.ended, omega (arith, s.leads_len_bound.1, c.list_changed-work.auto.list, c.loop-s.invariant.1.list_room), omega (arith, s.leads_len_bound.1))
-
-pub slice_bounds-list-end : goal.slice_bounds-list-end
-slice_bounds-list-end c =
-    let j = (goal.at.slice_bounds-list-end c).Joined-is_anew in
+pub by_xors-sums-requires : goal.by_xors-sums-requires
+by_xors-sums-requires c =
+    let j = (goal.at.by_xors-sums-requires c).Joined-is_anew in
     let p = prepared j in
-    omega (arith, p.0, p.1.list_room)
+    let w = went_then (went_then c.by_clauses-units.ensures.went c.by_ands-outputs.ensures.went) c.by_and_pairs-pairs.ensures.went in
+    (omega arith, (ready_on (row_ready (start j)) w, (p.starts, (p.tables.xor_table, (xors_known_on w.later p.tables.xors_known, (omega (arith, p.xor_room), omega arith))))))
 
-pub slice_bounds-by_clauses-end : goal.slice_bounds-by_clauses-end
-slice_bounds-by_clauses-end c =
-    let j = (goal.at.slice_bounds-by_clauses-end c).Joined-is_anew in
+pub by_sides-mates-requires : goal.by_sides-mates-requires
+by_sides-mates-requires c =
+    let j = (goal.at.by_sides-mates-requires c).Joined-is_anew in
     let p = prepared j in
-    sym (length-take-le _ _ (omega (arith, p.0, p.1.list_room)))
-
-pub by_clauses-units-requires : goal.by_clauses-units-requires
-by_clauses-units-requires c =
-    let j = (goal.at.by_clauses-units-requires c).Joined-is_anew in
-    let p = prepared j in
-    record { ready = row_ready (start j); are_starts = p.3.starts }
-
-pub slice_bounds-list-end-in-loop-s : goal.slice_bounds-list-end-in-loop-s
-slice_bounds-list-end-in-loop-s c =
-    let j = (goal.at.slice_bounds-list-end-in-loop-s c).Joined-is_anew in
-    let p = prepared j in
-    omega (arith, p.0, p.1.list_room)
-
-pub slice_bounds-by_ands-end : goal.slice_bounds-by_ands-end
-slice_bounds-by_ands-end c =
-    let j = (goal.at.slice_bounds-by_ands-end c).Joined-is_anew in
-    let p = prepared j in
-    sym (length-take-le _ _ (omega (arith, p.0, p.1.list_room)))
-
-pub slice_bounds-by_ands-end-in-loop-s : goal.slice_bounds-by_ands-end-in-loop-s
-slice_bounds-by_ands-end-in-loop-s c =
-    let j = (goal.at.slice_bounds-by_ands-end-in-loop-s c).Joined-is_anew in
-    let p = prepared j in
-    sym (p.1.held_room)
-
-pub by_ands-outputs-requires : goal.by_ands-outputs-requires
-by_ands-outputs-requires c =
-    let j = (goal.at.by_ands-outputs-requires c).Joined-is_anew in
-    let p = prepared j in
-    record { ready = ready_on (row_ready (start j)) (c.by_clauses-units.ensures.went); are_starts = p.3.starts; blank_2 = c.loop-s.invariant.3 }
-
-pub slice_bounds-list-end-in-loop-s-2 : goal.slice_bounds-list-end-in-loop-s-2
-slice_bounds-list-end-in-loop-s-2 c =
-    let j = (goal.at.slice_bounds-list-end-in-loop-s-2 c).Joined-is_anew in
-    let p = prepared j in
-    omega (arith, p.0, p.1.list_room)
-
-pub slice_bounds-by_and_pairs-end : goal.slice_bounds-by_and_pairs-end
-slice_bounds-by_and_pairs-end c =
-    let j = (goal.at.slice_bounds-by_and_pairs-end c).Joined-is_anew in
-    let p = prepared j in
-    sym (length-take-le _ _ (omega (arith, p.0, p.1.list_room)))
-
-pub slice_bounds-by_and_pairs-end-in-loop-s : goal.slice_bounds-by_and_pairs-end-in-loop-s
-slice_bounds-by_and_pairs-end-in-loop-s c =
-    let j = (goal.at.slice_bounds-by_and_pairs-end-in-loop-s c).Joined-is_anew in
-    let p = prepared j in
-    sym (p.1.and_keys)
-
-pub slice_bounds-by_and_pairs-end-in-loop-s-2 : goal.slice_bounds-by_and_pairs-end-in-loop-s-2
-slice_bounds-by_and_pairs-end-in-loop-s-2 c =
-    let j = (goal.at.slice_bounds-by_and_pairs-end-in-loop-s-2 c).Joined-is_anew in
-    let p = prepared j in
-    sym (p.1.and_slots)
-
-pub slice_bounds-by_and_pairs-end-in-loop-s-3 : goal.slice_bounds-by_and_pairs-end-in-loop-s-3
-slice_bounds-by_and_pairs-end-in-loop-s-3 c =
-    let j = (goal.at.slice_bounds-by_and_pairs-end-in-loop-s-3 c).Joined-is_anew in
-    let p = prepared j in
-    sym (p.1.and_next)
-
-pub slice_bounds-by_and_pairs-end-in-loop-s-4 : goal.slice_bounds-by_and_pairs-end-in-loop-s-4
-slice_bounds-by_and_pairs-end-in-loop-s-4 c =
-    let j = (goal.at.slice_bounds-by_and_pairs-end-in-loop-s-4 c).Joined-is_anew in
-    let p = prepared j in
-    sym (p.1.and_heads)
-
-pub slice_bounds-by_and_pairs-end-in-loop-s-5 : goal.slice_bounds-by_and_pairs-end-in-loop-s-5
-slice_bounds-by_and_pairs-end-in-loop-s-5 c =
-    let j = (goal.at.slice_bounds-by_and_pairs-end-in-loop-s-5 c).Joined-is_anew in
-    let p = prepared j in
-    sym (c.by_ands-outputs.auto.held ∙ p.1.held_room)
-
-pub by_and_pairs-ands-requires : goal.by_and_pairs-ands-requires
-by_and_pairs-ands-requires c =
-    let j = (goal.at.by_and_pairs-ands-requires c).Joined-is_anew in
-    let p = prepared j in
-    let w = went_then (c.by_clauses-units.ensures.went) c.by_ands-outputs.ensures.went in
-    let k = p.3.tables in
-    record {
-      ready = ready_on (row_ready (start j)) w;
-      are_starts = p.3.starts;
-      and_table = k.ands;
-      ands_known = ands_known_on w.later k.ands_known;
-      list_in_bounds = (omega (arith, p.3.and_room, p.1.and_keys), omega (arith, p.1.and_keys), c.by_ands-outputs.ensures.blank);
-    }
-
-pub slice_bounds-list-end-in-loop-s-3 : goal.slice_bounds-list-end-in-loop-s-3
-slice_bounds-list-end-in-loop-s-3 c =
-    let j = (goal.at.slice_bounds-list-end-in-loop-s-3 c).Joined-is_anew in
-    let p = prepared j in
-    omega (arith, p.0, p.1.list_room)
-
-pub slice_bounds-by_xors-end : goal.slice_bounds-by_xors-end
-slice_bounds-by_xors-end c =
-    let j = (goal.at.slice_bounds-by_xors-end c).Joined-is_anew in
-    let p = prepared j in
-    sym (length-take-le _ _ (omega (arith, p.0, p.1.list_room)))
-
-pub slice_bounds-by_xors-end-in-loop-s : goal.slice_bounds-by_xors-end-in-loop-s
-slice_bounds-by_xors-end-in-loop-s c =
-    let j = (goal.at.slice_bounds-by_xors-end-in-loop-s c).Joined-is_anew in
-    let p = prepared j in
-    sym (p.1.xor_keys)
-
-pub slice_bounds-by_xors-end-in-loop-s-2 : goal.slice_bounds-by_xors-end-in-loop-s-2
-slice_bounds-by_xors-end-in-loop-s-2 c =
-    let j = (goal.at.slice_bounds-by_xors-end-in-loop-s-2 c).Joined-is_anew in
-    let p = prepared j in
-    sym (p.1.xor_sums)
-
-pub slice_bounds-by_xors-end-in-loop-s-3 : goal.slice_bounds-by_xors-end-in-loop-s-3
-slice_bounds-by_xors-end-in-loop-s-3 c =
-    let j = (goal.at.slice_bounds-by_xors-end-in-loop-s-3 c).Joined-is_anew in
-    let p = prepared j in
-    sym (p.1.xor_next)
-
-pub slice_bounds-by_xors-end-in-loop-s-4 : goal.slice_bounds-by_xors-end-in-loop-s-4
-slice_bounds-by_xors-end-in-loop-s-4 c =
-    let j = (goal.at.slice_bounds-by_xors-end-in-loop-s-4 c).Joined-is_anew in
-    let p = prepared j in
-    sym (p.1.xor_heads)
-
-pub by_xors-xors-requires : goal.by_xors-xors-requires
-by_xors-xors-requires c =
-    let j = (goal.at.by_xors-xors-requires c).Joined-is_anew in
-    let p = prepared j in
-    let w = went_then (went_then (c.by_clauses-units.ensures.went) c.by_ands-outputs.ensures.went) c.by_and_pairs-ands.ensures.went in
-    let k = p.3.tables in
-    record {
-      ready = ready_on (row_ready (start j)) w;
-      are_starts = p.3.starts;
-      xor_table = k.xors;
-      xors_known = xors_known_on w.later k.xors_known;
-      list_in_bounds = (omega (arith, p.3.xor_room, p.1.xor_keys), omega (arith, p.1.xor_keys));
-    }
-
-pub slice_bounds-list-end-in-loop-s-4 : goal.slice_bounds-list-end-in-loop-s-4
-slice_bounds-list-end-in-loop-s-4 c =
-    let j = (goal.at.slice_bounds-list-end-in-loop-s-4 c).Joined-is_anew in
-    let p = prepared j in
-    omega (arith, p.0, p.1.list_room)
-
-pub slice_bounds-by_sides-end : goal.slice_bounds-by_sides-end
-slice_bounds-by_sides-end c =
-    let j = (goal.at.slice_bounds-by_sides-end c).Joined-is_anew in
-    let p = prepared j in
-    sym (length-take-le _ _ (omega (arith, p.0, p.1.list_room)))
-
-pub slice_bounds-by_sides-end-in-loop-s : goal.slice_bounds-by_sides-end-in-loop-s
-slice_bounds-by_sides-end-in-loop-s c =
-    let j = (goal.at.slice_bounds-by_sides-end-in-loop-s c).Joined-is_anew in
-    let p = prepared j in
-    sym (p.1.sides)
-
-pub slice_bounds-by_sides-end-in-loop-s-2 : goal.slice_bounds-by_sides-end-in-loop-s-2
-slice_bounds-by_sides-end-in-loop-s-2 c =
-    let j = (goal.at.slice_bounds-by_sides-end-in-loop-s-2 c).Joined-is_anew in
-    let p = prepared j in
-    sym (p.1.likes)
-
-pub slice_bounds-by_sides-end-in-loop-s-3 : goal.slice_bounds-by_sides-end-in-loop-s-3
-slice_bounds-by_sides-end-in-loop-s-3 c =
-    let j = (goal.at.slice_bounds-by_sides-end-in-loop-s-3 c).Joined-is_anew in
-    let p = prepared j in
-    sym (p.1.mate-next)
-
-pub slice_bounds-by_sides-end-in-loop-s-4 : goal.slice_bounds-by_sides-end-in-loop-s-4
-slice_bounds-by_sides-end-in-loop-s-4 c =
-    let j = (goal.at.slice_bounds-by_sides-end-in-loop-s-4 c).Joined-is_anew in
-    let p = prepared j in
-    sym (p.1.mate-heads)
-
-pub slice_bounds-by_sides-end-in-loop-s-5 : goal.slice_bounds-by_sides-end-in-loop-s-5
-slice_bounds-by_sides-end-in-loop-s-5 c =
-    let j = (goal.at.slice_bounds-by_sides-end-in-loop-s-5 c).Joined-is_anew in
-    let p = prepared j in
-    sym (p.1.like-next)
-
-pub slice_bounds-by_sides-end-in-loop-s-6 : goal.slice_bounds-by_sides-end-in-loop-s-6
-slice_bounds-by_sides-end-in-loop-s-6 c =
-    let j = (goal.at.slice_bounds-by_sides-end-in-loop-s-6 c).Joined-is_anew in
-    let p = prepared j in
-    sym (p.1.like-heads)
-
-pub by_sides-ites-requires : goal.by_sides-ites-requires
-by_sides-ites-requires c =
-    let j = (goal.at.by_sides-ites-requires c).Joined-is_anew in
-    let p = prepared j in
-    let w = went_then (went_then (went_then (c.by_clauses-units.ensures.went) c.by_ands-outputs.ensures.went) c.by_and_pairs-ands.ensures.went) c.by_xors-xors.ensures.went in
-    let k = p.3.tables in
-    record {
-      ready = ready_on (row_ready (start j)) w;
-      are_starts = p.3.starts;
-      side_table = k.sides;
-      sides_known = sides_known_on w.later k.sides_known;
-      list_bound = (omega (arith, p.3.side_room, p.1.likes), omega (arith, p.1.likes));
-    }
-
-pub slice_bounds-sides-end : goal.slice_bounds-sides-end
-slice_bounds-sides-end c =
-    let j = (goal.at.slice_bounds-sides-end c).Joined-is_anew in
-    let p = prepared j in
-    let b = c.by_sides-ites in
-    let t = b.ensures.table in
-    omega (arith, t.table.low, t.room, b.auto.sides, p.1.sides)
-
-pub slice_bounds-by_groups-end : goal.slice_bounds-by_groups-end
-slice_bounds-by_groups-end c =
-    let t = c.by_sides-ites.ensures.table in
-    sym (length-take-le _ _ (omega (arith, t.table.low, t.room)))
-
-pub slice_bounds-by_groups-end-in-loop-s : goal.slice_bounds-by_groups-end-in-loop-s
-slice_bounds-by_groups-end-in-loop-s c =
-    let j = (goal.at.slice_bounds-by_groups-end-in-loop-s c).Joined-is_anew in
-    let p = prepared j in
-    sym (c.by_sides-ites.auto.likes ∙ p.1.likes)
-
-pub slice_bounds-by_groups-end-in-loop-s-2 : goal.slice_bounds-by_groups-end-in-loop-s-2
-slice_bounds-by_groups-end-in-loop-s-2 c =
-    let j = (goal.at.slice_bounds-by_groups-end-in-loop-s-2 c).Joined-is_anew in
-    let p = prepared j in
-    sym (c.by_sides-ites.auto.like_next ∙ p.1.like-next)
-
-pub slice_bounds-by_groups-end-in-loop-s-3 : goal.slice_bounds-by_groups-end-in-loop-s-3
-slice_bounds-by_groups-end-in-loop-s-3 c =
-    let j = (goal.at.slice_bounds-by_groups-end-in-loop-s-3 c).Joined-is_anew in
-    let p = prepared j in
-    sym (c.by_sides-ites.auto.like_heads ∙ p.1.like-heads)
-
-pub slice_bounds-by_groups-end-in-loop-s-6 : goal.slice_bounds-by_groups-end-in-loop-s-6
-slice_bounds-by_groups-end-in-loop-s-6 c =
-    let j = (goal.at.slice_bounds-by_groups-end-in-loop-s-6 c).Joined-is_anew in
-    let p = prepared j in
-    sym (p.1.holders_room)
+    let w = went_then (went_then (went_then c.by_clauses-units.ensures.went c.by_ands-outputs.ensures.went) c.by_and_pairs-pairs.ensures.went) c.by_xors-sums.ensures.went in
+    (omega arith, (ready_on (row_ready (start j)) w, (p.starts, (p.tables.side_table, (sides_known_on w.later p.tables.sides_known, (omega (arith, p.side_room), omega arith))))))
 
 pub by_groups-t-requires : goal.by_groups-t-requires
 by_groups-t-requires c =
     let j = (goal.at.by_groups-t-requires c).Joined-is_anew in
-    let p = prepared j in
-    let z = between_sizes c.loop-s.invariant.0 in
-    record {
-      by_index = (_, ready_on (row_ready (start j)) (went_then (went_then (went_then (went_then (c.by_clauses-units.ensures.went) c.by_ands-outputs.ensures.went) c.by_and_pairs-ands.ensures.went) c.by_xors-xors.ensures.went) c.by_sides-ites.ensures.went), side_groups c.by_sides-ites.ensures.table, c.chain_hubs.ensures);
-      in_bounds = omega (arith, p.1.holders_room, z.0, c.requires.leads_len_bound.0);
-    }
+    let w = went_then (went_then (went_then (went_then c.by_clauses-units.ensures.went c.by_ands-outputs.ensures.went) c.by_and_pairs-pairs.ensures.went) c.by_xors-sums.ensures.went) c.by_sides-mates.ensures.went in
+    let z = between_sizes c.loop-work.invariant.0 in
+    (omega arith, (omega arith, ((_, ready_on (row_ready (start j)) w, side_groups c.by_sides-mates.ensures.table, c.chain.ensures), omega (arith, z.0, c.requires.leads_len_bound.0))))
 
-pub follow-s-requires : goal.follow-s-requires
-follow-s-requires c =
-    let j = (goal.at.follow-s-requires c).Joined-is_anew in
-    let s = c.requires in
-    let sides = went_then (went_then (went_then (went_then (c.by_clauses-units.ensures.went) c.by_ands-outputs.ensures.went) c.by_and_pairs-ands.ensures.went) c.by_xors-xors.ensures.went) c.by_sides-ites.ensures.went in
-    let grouped = c.by_groups-t.ensures _ (ready_on (row_ready (start j)) sides) (side_groups c.by_sides-ites.ensures.table) c.chain_hubs.ensures in
-    let making = row_making (start j) (went_then sides grouped.0) in
-    let l = c.loop-s.invariant in
-    let z = between_sizes l.0 in
-    record {
-      next_len = (making.size, z.2 ∙ sym z.0);
-      rounds_le_limit = few_made s.found s.fits s.leads_len_bound.0 s.leads_len_bound.1 l.0 c.loop-s-test.true;
-    }
+pub loop-work-smaller : goal.loop-work-smaller
+loop-work-smaller c = fewer_left c.in-Continue.ensures
 
-pub loop-s-smaller : goal.loop-s-smaller
-loop-s-smaller c =
-    let s = c.requires in
-    fewer_left s.found s.fits s.leads_len_bound.0 s.leads_len_bound.1 c.loop-s.invariant.0 c.loop-s-test.true c.follow-s.ensures
+-- what the passes have made
+record Made (d : After-by_groups-t) : Type 0 where
+  making : Making (clauses_in d.args.codes.now) d.loop-work.leads d.by_groups-t.new.new d.by_groups-t.result
+  joined : RowJoined d.args.codes.now d.args.marks.now d.loop-work.leads d.by_groups-t.new.new d.by_groups-t.result
+  tables : Tables d.args.codes.now d.args.marks.now d.loop-work.leads d.by_groups-t.new.new d.by_groups-t.result (take d.if-is_anew.work.clauses d.if-is_anew.list) (length (take d.if-is_anew.work.clauses d.if-is_anew.list)) d.by_and_pairs-pairs.new.ands d.by_xors-sums.new.xors d.by_sides-mates.new.sides
 
-pub loop-s-preserved : goal.loop-s-preserved
-loop-s-preserved c =
-    let j = (goal.at.loop-s-preserved c).Joined-is_anew in
-    let p = prepared j in
+made : (d : After-by_groups-t) → Starting d.args.codes.now d.args.marks.now d.loop-work.older d.loop-work.leads d.loop-work.next d.loop-work.s.rounds d.loop-work.s.groups
+    → Prepared d.args.codes.now d.args.marks.now d.loop-work.older d.loop-work.leads d.loop-work.next (fresh d.loop-work.s.groups) (take d.if-is_anew.work.clauses d.if-is_anew.list) d.if-is_anew.ands d.if-is_anew.xors d.if-is_anew.sides
+    → Made d
+made d begins p =
+    let u = d.by_clauses-units.ensures in
+    let o = d.by_ands-outputs.ensures in
+    let a = d.by_and_pairs-pairs.ensures in
+    let x = d.by_xors-sums.ensures in
+    let m = d.by_sides-mates.ensures in
+    let w = went_then (went_then (went_then (went_then u.went o.went) a.went) x.went) m.went in
+    let g = d.by_groups-t.ensures _ (ready_on (row_ready begins) w) (side_groups m.table) d.chain.ensures in
+    let making = row_making begins (went_then w g.0) in
+    let both =
+    round_joined _ (found_marked d.requires.found) making p.basis o.went.later a.went.later x.went.later m.went.later g.0.later u.clauses o.ands a.table a.known x.table x.known m.table m.known m.stays g.1 in
+    record { making = making; joined = both.0; tables = both.1 }
+
+pub loop-work-preserved : goal.loop-work-preserved
+loop-work-preserved c =
     let s = c.requires in
-    let sides = went_then (went_then (went_then (went_then (c.by_clauses-units.ensures.went) c.by_ands-outputs.ensures.went) c.by_and_pairs-ands.ensures.went) c.by_xors-xors.ensures.went) c.by_sides-ites.ensures.went in
-    let grouped = c.by_groups-t.ensures _ (ready_on (row_ready (start j)) sides) (side_groups c.by_sides-ites.ensures.table) c.chain_hubs.ensures in
-    let making = row_making (start j) (went_then sides grouped.0) in
-    let l = c.loop-s.invariant in
-    let a = c.by_and_pairs-ands in
-    let x = c.by_xors-xors in
-    let b = c.by_sides-ites in
-    let f = c.follow-s in
-    let o = c.by_ands-outputs.ensures in
-    let t = b.ensures.table in
-    let size : length (take b.result.count b.new.sides) ≡ b.result.count = length-take-le b.result.count b.new.sides (omega (arith, t.table.low, t.room)) in
-    let joined =
-    round_joined (found_marked s.found) making p.3.basis o.went.later a.ensures.went.later x.ensures.went.later b.ensures.went.later grouped.0.later
-    c.by_clauses-units.ensures.clauses o.ands a.ensures.table a.ensures.known x.ensures.table x.ensures.known t b.ensures.known b.ensures.stays
-    (λ i h l. grouped.1 i h (omega (arith, l, size))) in (
-      round_followed s.found s.fits s.leads_len_bound.0 s.leads_len_bound.1 l.0 c.loop-s-test.true making joined.0 _ _ f.auto.older f.ensures,
-      record {
-        seen_room = c.list_changed-work.auto.seen ∙ l.1.seen_room;
-        list_room = p.1.list_room;
-        held_room = a.auto.held ∙ c.by_ands-outputs.auto.held ∙ p.1.held_room;
-        holders_room = c.by_groups-t.auto.holders ∙ p.1.holders_room;
-        and_keys = a.auto.keys ∙ p.1.and_keys;
-        and_slots = a.auto.slots ∙ p.1.and_slots;
-        and_next = a.auto.next ∙ p.1.and_next;
-        and_heads = a.auto.heads ∙ p.1.and_heads;
-        xor_keys = x.auto.keys ∙ p.1.xor_keys;
-        xor_sums = x.auto.sums ∙ p.1.xor_sums;
-        xor_next = x.auto.next ∙ p.1.xor_next;
-        xor_heads = x.auto.heads ∙ p.1.xor_heads;
-        sides = b.auto.sides ∙ p.1.sides;
-        likes = b.auto.likes ∙ p.1.likes;
-        mate-next = b.auto.mate_next ∙ p.1.mate-next;
-        mate-heads = b.auto.mate_heads ∙ p.1.mate-heads;
-        like-next = b.auto.like_next ∙ p.1.like-next;
-        like-heads = b.auto.like_heads ∙ p.1.like-heads;
-      },
+    let j = (goal.at.loop-work-preserved c).Joined-is_anew in
+    let m = made (goal.at.loop-work-preserved c).After-by_groups-t (start j) (prepared j) in (
+      round_followed s.found s.fits s.leads_len_bound.0 s.leads_len_bound.1 c.loop-work.invariant.0 m.making m.joined c.in-Continue.ensures,
       c.list_changed-work.ensures.seen,
-      a.ensures.blank,
-      (omega (arith, a.ensures.table.table.low, a.auto.keys, p.1.and_keys), omega (arith, x.ensures.table.table.low, x.auto.keys, p.1.xor_keys), omega (arith, t.table.low, b.auto.likes, p.1.likes)),
-      λ o z. tables_left making joined.1 f.ensures o,
+      c.by_and_pairs-pairs.ensures.blank,
+      λ z. tables_left m.making m.tables c.in-Continue.ensures,
     )
 
-pub shape_of-leads : goal.shape_of-leads
-shape_of-leads c = (between_sizes c.loop-s.invariant.0).0
+pub returns-in-Break-clause-leads_after : goal.returns-in-Break-clause-leads_after
+returns-in-Break-clause-leads_after c =
+    let s = c.requires in
+    let j = (goal.at.returns-in-Break-clause-leads_after c).Joined-is_anew in
+    let m = made (goal.at.returns-in-Break-clause-leads_after c).After-by_groups-t (start j) (prepared j) in
+    (round_followed s.found s.fits s.leads_len_bound.0 s.leads_len_bound.1 c.loop-work.invariant.0 m.making m.joined c.in-Break.ensures).leads_are
 
-pub shape_of-next : goal.shape_of-next
-shape_of-next c = (between_sizes c.loop-s.invariant.0).1 ∙ sym (ap length c.requires.leads_value.1)
-
-pub shape_of-older : goal.shape_of-older
-shape_of-older c = (between_sizes c.loop-s.invariant.0).2 ∙ sym (ap length c.requires.leads_value.2)
-
-pub returns : goal.returns
-returns c =
-    let both = is_over c.loop-s.invariant.0 c.loop-s-test.false in
-    record { leads_after = both.0; groups_value = both.1 }
+pub returns-in-Break-clause-groups_value : goal.returns-in-Break-clause-groups_value
+returns-in-Break-clause-groups_value c =
+    let s = c.requires in
+    let j = (goal.at.returns-in-Break-clause-groups_value c).Joined-is_anew in
+    let m = made (goal.at.returns-in-Break-clause-groups_value c).After-by_groups-t (start j) (prepared j) in
+    (round_followed s.found s.fits s.leads_len_bound.0 s.leads_len_bound.1 c.loop-work.invariant.0 m.making m.joined c.in-Break.ensures).groups_are

@@ -1,11 +1,7 @@
-use Prim.Native.Nat.{ℕ, ◌-◌, ◌<◌}
-use lib.ListN.{length, get_or}
+use Rattle.std.proofs.Common.{ℕ, ◌<◌, get_or}
 use Rattle.closure.specs.Passing.{ClauseJoined}
 use Rattle.closure.specs.Marked.{Went}
 use Rattle.closure.proofs.units.by_clauses.Given as goal
 
-abbrev pub invariant-loop-i : goal.invariant-loop-i
-invariant-loop-i l = Went l.codes l.marks l.old l.initial.new l.initial.t l.new l.t × ((j : ℕ) → j < l.i → ClauseJoined l.codes l.marks l.old l.new l.t (get_or l.list j 0))
-
-abbrev pub decreases-loop-i : goal.decreases-loop-i
-decreases-loop-i l = length l.list - l.i
+abbrev pub invariant-loop-start : goal.invariant-loop-start
+invariant-loop-start l = Went l.codes l.marks l.old l.initial.new l.initial.t l.new l.t × ((j : ℕ) → j < l.start-index → ClauseJoined l.codes l.marks l.old l.new l.t (get_or l.list j 0))

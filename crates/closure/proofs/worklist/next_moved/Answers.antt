@@ -1,18 +1,13 @@
-use Rattle.closure.proofs.Searches.{passed_on, first_here, first_none}
+use Rattle.std.proofs.Common.{◌≡◌, true, false, rules, tests}
+use Rattle.std.proofs.lemmas.Iterator.{first_from_Range}
+use Rattle.closure.specs.Worklist.{has_moved}
+use Rattle.closure.proofs.Searches.{first_after}
 use Rattle.closure.proofs.WorklistSteps.{has-moved, not_moved}
 use Rattle.closure.proofs.worklist.next_moved.Goals as goal
 
-pub skip_unmoved-w-requires : goal.skip_unmoved-w-requires
-skip_unmoved-w-requires c = c.requires
-
-pub loop-w-init : goal.loop-w-init
-loop-w-init c = let s = c.skip_unmoved-w.ensures in (record { low = s.0; each = s.2 }, s.1)
-
-pub returns-then-older-w : goal.returns-then-older-w
-returns-then-older-w c = first_here c.loop-w.invariant (has-moved _ _ _ c.if-older-w.true)
-
-pub loop-w-preserved : goal.loop-w-preserved
-loop-w-preserved c = passed_on c.loop-w.invariant c.loop-w-test.true (not_moved _ _ _ c.if-older-w.false)
-
 pub returns : goal.returns
-returns c = first_none c.loop-w.invariant c.loop-w-test.false
+returns c =
+    let f = has_moved c.args.older.now c.args.old.now in
+    let s = c.skip_unmoved-unmoved.ensures in
+    first_after f s.0 s.1 s.2 _
+    (first_from_Range _ _ _ _ (λ w. f w ≡ true) (λ w. f w ≡ false) c.find.ensures.ran (λ x q k. search (has-moved, rules, tests)) (λ x q k. search (not_moved, rules, tests)))

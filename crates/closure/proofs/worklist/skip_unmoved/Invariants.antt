@@ -1,5 +1,4 @@
-use Prim.Native.Nat.{◌-◌}
-use lib.ListN.{length}
+use Rattle.std.proofs.Common.{◌-◌, length}
 use Rattle.closure.specs.Worklist.{has_moved}
 use Rattle.closure.proofs.Searches.{Passed}
 use Rattle.closure.proofs.worklist.skip_unmoved.Given as goal

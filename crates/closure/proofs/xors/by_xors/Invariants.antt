@@ -1,11 +1,11 @@
-use Prim.Native.Nat.{◌-◌}
-use lib.ListN.{length}
-use Rattle.closure.proofs.ListedXors.{Listed}
+use Prim.Native.Nat.{◌+◌, ◌≤◌}
+use lib.ListN.{drop}
+use Rattle.closure.specs.Marked.{Went}
+use Rattle.closure.specs.Worklist.{span_of}
+use Rattle.closure.specs.KeptXors.{XorTable, XorsKnown}
 use Rattle.closure.proofs.xors.by_xors.Given as goal
 
-abbrev pub invariant-loop-i : goal.invariant-loop-i
-invariant-loop-i l = Listed l.codes l.marks l.old l.list (record { leads = l.initial.new; keys = l.initial.keys; sums = l.initial.sums; next = l.initial.next; heads = l.initial.heads }) l.initial.s l.i
-    (record { leads = l.new; keys = l.keys; sums = l.sums; next = l.next; heads = l.heads }) l.s
-
-abbrev pub decreases-loop-i : goal.decreases-loop-i
-decreases-loop-i l = length l.list - l.i
+abbrev pub invariant-loop-b : goal.invariant-loop-b
+invariant-loop-b g l = Went l.codes l.marks l.old l.initial.new l.initial.t l.new l.t × XorTable l.codes l.marks l.old l.xors
+    × XorsKnown l.codes l.marks l.old l.new l.t l.list l.b-index l.xors
+    × (l.xors.count + span_of l.codes (drop l.b-index l.list) ≤ l.initial.xors.count + span_of l.codes l.list)

@@ -1,40 +1,54 @@
-use mathlib.Core.Path.{◌≡◌, refl, ◌∙◌}
-use Prim.Native.Nat.{◌<◌}
+use mathlib.Core.Path.{◌≡◌, refl, sym, ◌∙◌, ap}
+use Prim.Native.Nat.{ℕ, ◌+◌}
 use native.Mathlib.Omega.{arith}
-use lib.ListN.{length}
-use Rattle.clauses.proofs.Rows.{starts_first, starts_next}
-use Rattle.gates.proofs.Twos.{twos_none}
+use lib.ListN.{length, get_or, length-set}
+use Rattle.gates.proofs.ClauseParts.{Given, given, literals_are, literal_is}
+use Rattle.gates.proofs.Twos.{twos_none, twos_two, twos_other}
 use Rattle.gates.proofs.and.list_twos.Goals as goal
 
-pub fill-requires : goal.fill-requires
-fill-requires c = tt
+pub loop-clause-init : goal.loop-clause-init
+loop-clause-init c =
+    let made = c.clauses-clause-items.ensures in
+    rw (c.into_iter-clause-iterator.ensures.into_iter_gives, made.start) (refl, made.list, omega arith, twos_none (omega (arith, c.fill.ensures.len, c.requires)))
 
-pub loop-b-init : goal.loop-b-init
-loop-b-init c = (refl, omega arith, starts_first _, twos_none (rw c.fill.auto.row c.requires.max_code_in_bounds))
+pub bounds-twos-literals : goal.bounds-twos-literals
+bounds-twos-literals c =
+    let turn = c.loop-clause.invariant in
+    let b = c.loop-clause.clause-iterator.start in
+    let g : Given c.args.list.now c.in-Some.clause b c.next.new.self.start = given c.args.list.now c.loop-clause.clause-iterator c.next.new.self c.in-Some.clause turn.1 c.in-Some.ensures.steps in
+    omega (arith, literal_is g c.literals-literals.ensures 0 (omega (arith, c.if-len-eq2.true, c.len.ensures, ap length c.literals-literals.ensures)), c.args.list.now.normal.small (b + 0), turn.3.room)
 
-pub clause_end-end-requires : goal.clause_end-end-requires
-clause_end-end-requires c = tt
+pub bounds-twos-literals-then-len-eq2 : goal.bounds-twos-literals-then-len-eq2
+bounds-twos-literals-then-len-eq2 c =
+    let turn = c.loop-clause.invariant in
+    let b = c.loop-clause.clause-iterator.start in
+    let g : Given c.args.list.now c.in-Some.clause b c.next.new.self.start = given c.args.list.now c.loop-clause.clause-iterator c.next.new.self c.in-Some.clause turn.1 c.in-Some.ensures.steps in
+    rw length-set
+    (omega (arith, literal_is g c.literals-literals.ensures 1 (omega (arith, c.if-len-eq2.true, c.len.ensures, ap length c.literals-literals.ensures)), c.args.list.now.normal.small (b + 1), turn.3.room))
 
-pub put_two-requires : goal.put_two-requires
-put_two-requires c =
-    let inside : c.clause_end-end.result < length c.args.codes.now = omega (arith, c.clause_end-end.ensures, c.requires.normal.ended c.loop-b.b ((c.loop-b.invariant.2 (omega (arith, c.loop-b-test.true))))) in
-    record { normal = c.requires.normal; spans = (record { inside = omega (arith, c.loop-b-test.true); is = c.clause_end-end.ensures }, (c.loop-b.invariant.2 (omega (arith, c.loop-b-test.true)))); twos = c.loop-b.invariant.3 }
+pub loop-clause-preserved-then-len-eq2 : goal.loop-clause-preserved-then-len-eq2
+loop-clause-preserved-then-len-eq2 c =
+    let turn = c.loop-clause.invariant in
+    let b = c.loop-clause.clause-iterator.start in
+    let g : Given c.args.list.now c.in-Some.clause b c.next.new.self.start = given c.args.list.now c.loop-clause.clause-iterator c.next.new.self c.in-Some.clause turn.1 c.in-Some.ensures.steps in
+    let row = c.args.list.now.codes.now in
+    let two : length c.literals-literals.result.now ≡ 2 = ap length c.literals-literals.ensures ∙ sym c.len.ensures ∙ c.if-len-eq2.true in
+    let z : b + 0 ≡ b = omega arith in
+    let x : get_or c.literals-literals.result.now 0 0 ≡ get_or row b 0 = literal_is g c.literals-literals.ensures 0 (omega arith) ∙ ap (λ (i : ℕ). get_or row i 0) z in
+    let y : get_or c.literals-literals.result.now 1 0 ≡ get_or row (b + 1) 0 = literal_is g c.literals-literals.ensures 1 (omega arith) in (
+      rw (length-set, length-set) turn.0,
+      c.in-Some.ensures.steps.2 ∙ turn.1,
+      omega (arith, g.next, g.inside),
+      rw (g.next, x, y) (twos_two _ turn.3 c.args.list.now.normal (ap length (sym (literals_are g c.literals-literals.ensures)) ∙ two)),
+    )
 
-pub overflow_add-b : goal.overflow_add-b
-overflow_add-b c =
-    let inside : c.clause_end-end.result < length c.args.codes.now = omega (arith, c.clause_end-end.ensures, c.requires.normal.ended c.loop-b.b ((c.loop-b.invariant.2 (omega (arith, c.loop-b-test.true))))) in
-    omega (arith, inside)
-
-pub loop-b-smaller : goal.loop-b-smaller
-loop-b-smaller c = omega (arith, c.clause_end-end.ensures, c.loop-b-test.true)
-
-pub loop-b-preserved : goal.loop-b-preserved
-loop-b-preserved c =
-    let inside : c.clause_end-end.result < length c.args.codes.now = omega (arith, c.clause_end-end.ensures, c.requires.normal.ended c.loop-b.b ((c.loop-b.invariant.2 (omega (arith, c.loop-b-test.true))))) in
-    (c.put_two.auto.twos ∙ c.loop-b.invariant.0, omega (arith, inside), λ h. rw c.clause_end-end.ensures (starts_next _ _ (omega (arith, c.clause_end-end.ensures, h))), c.put_two.ensures)
-
-pub shape_of-twos : goal.shape_of-twos
-shape_of-twos c = c.loop-b.invariant.0 ∙ c.fill.auto.row
-
-pub returns : goal.returns
-returns c = let e : c.loop-b.b ≡ length c.args.codes.now = omega (arith, c.loop-b-test.false, c.loop-b.invariant.1) in rw e at c.loop-b.invariant.3
+pub loop-clause-preserved : goal.loop-clause-preserved
+loop-clause-preserved c =
+    let turn = c.loop-clause.invariant in
+    let b = c.loop-clause.clause-iterator.start in
+    let g : Given c.args.list.now c.in-Some.clause b c.next.new.self.start = given c.args.list.now c.loop-clause.clause-iterator c.next.new.self c.in-Some.clause turn.1 c.in-Some.ensures.steps in (
+      turn.0,
+      c.in-Some.ensures.steps.2 ∙ turn.1,
+      omega (arith, g.next, g.inside),
+      rw g.next (twos_other _ turn.3 (λ e. c.if-len-eq2.false (rw (g.list_is, g.start_is) at c.len.ensures ∙ e))),
+    )

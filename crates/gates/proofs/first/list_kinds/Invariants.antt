@@ -1,12 +1,9 @@
 use mathlib.Core.Path.{◌≡◌}
-use Prim.Native.Nat.{◌-◌, ◌≤◌, ◌<◌}
+use Prim.Native.Nat.{◌≤◌}
 use lib.ListN.{length}
-use Rattle.clauses.specs.Row.{Starts}
 use Rattle.gates.specs.Mark.{Kinds}
 use Rattle.gates.proofs.first.list_kinds.Given as goal
 
-abbrev pub invariant-loop-b : goal.invariant-loop-b
-invariant-loop-b l = (length l.kinds ≡ length l.initial.kinds) × (l.b ≤ length l.codes) × (l.b < length l.codes → Starts l.codes l.b) × Kinds l.codes l.kinds l.b
-
-abbrev pub decreases-loop-b : goal.decreases-loop-b
-decreases-loop-b l = length l.codes - l.b
+abbrev pub invariant-loop-clause : goal.invariant-loop-clause
+invariant-loop-clause l =
+    (length l.kinds ≡ length l.initial.kinds) × (l.clause-iterator.list ≡ l.list) × (l.clause-iterator.start ≤ length l.list.codes.now) × Kinds l.list.codes.now l.kinds l.clause-iterator.start

@@ -6,7 +6,7 @@ use Rattle.gates.specs.Index.{sum, buckets}
 use Rattle.gates.proofs.index.bucket_at.Given as goal
 
 abbrev pub invariant-loop-b : goal.invariant-loop-b
-invariant-loop-b l = (l.s < buckets) × ((l.s + sum (clause_at l.codes l.i)) % buckets ≡ sum (clause_at l.codes l.b) % buckets)
+invariant-loop-b l = (l.sum < buckets) × ((l.sum + sum (clause_at l.codes l.i)) % buckets ≡ sum (clause_at l.codes l.b) % buckets)
 
 abbrev pub decreases-loop-b : goal.decreases-loop-b
 decreases-loop-b l = length l.codes - l.i

@@ -6,6 +6,6 @@ pub returns-then-b-eq0 : goal.returns-then-b-eq0
 unfolding is_start
 returns-then-b-eq0 c = rw (eq-eqb _ _ c.if-b-eq0.true)
 
-pub returns : goal.returns
+pub returns-else-b-eq0 : goal.returns-else-b-eq0
 unfolding is_start
-returns c = rw (ne_eqb _ _ c.if-b-eq0.false)
+returns-else-b-eq0 c = rw (ne_eqb _ _ c.if-b-eq0.false)

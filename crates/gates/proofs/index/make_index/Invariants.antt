@@ -4,6 +4,3 @@ use Rattle.gates.proofs.index.make_index.Given as goal
 
 abbrev pub invariant-loop-b : goal.invariant-loop-b
 invariant-loop-b l = Chained l.codes (length l.initial.index) l.b l.index
-
-abbrev pub decreases-loop-b : goal.decreases-loop-b
-decreases-loop-b l = l.b

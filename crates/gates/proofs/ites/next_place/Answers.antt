@@ -24,5 +24,5 @@ returns-then-codes-p-eq0 c =
 pub overflow_add-result : goal.overflow_add-result
 overflow_add-result c = let t = (in_three_is c.args.codes.now c.args.p c.requires) in omega (arith, t.high, t.clause.inside, c.well_formed)
 
-pub returns : goal.returns
-returns c = sym (around_next _ _ (next_inner _ _ ((in_three_is c.args.codes.now c.args.p c.requires)) c.if-codes-p-eq0.false))
+pub returns-else-codes-p-eq0 : goal.returns-else-codes-p-eq0
+returns-else-codes-p-eq0 c = sym (around_next _ _ (next_inner _ _ ((in_three_is c.args.codes.now c.args.p c.requires)) c.if-codes-p-eq0.false))

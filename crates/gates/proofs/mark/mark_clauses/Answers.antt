@@ -1,37 +1,58 @@
-use mathlib.Core.Path.{◌≡◌, refl, ◌∙◌}
+use mathlib.Core.Path.{◌≡◌, sym, ◌∙◌}
+use mathlib.Core.Logic.{◌≢◌}
 use native.Mathlib.Omega.{arith}
-use Prim.Native.Nat.{◌<◌}
-use lib.ListN.{length}
-use Rattle.clauses.proofs.Rows.{starts_first, starts_next}
+use lib.ListN.{get_or}
+use Rattle.std.proofs.Common.{rules}
+use Rattle.gates.specs.declared.kind.Kind.TheVariants.{Other}
+use Rattle.gates.proofs.ClauseKinds.{kind_other, kind_candidate}
+use Rattle.gates.proofs.ClauseParts.{Given, given}
+use Rattle.gates.proofs.Marking.{marking_clause}
 use Rattle.gates.proofs.mark.mark_clauses.Goals as goal
 
-pub loop-b-init : goal.loop-b-init
-loop-b-init c = (refl, omega arith, starts_first _, c.requires.marking, refl)
+pub bounds-kinds-clause : goal.bounds-kinds-clause
+bounds-kinds-clause c =
+    let turn = c.loop-clause.invariant in
+    let b = c.loop-clause.clause-iterator.start in
+    let g : Given c.args.kinds.now.list c.in-Some.clause b c.next.new.self.start = given c.args.kinds.now.list c.loop-clause.clause-iterator c.next.new.self c.in-Some.clause turn.1 c.in-Some.ensures.steps in
+    omega (arith, g.start_is, g.starts.inside, c.args.kinds.now.listed.room)
 
-pub clause_end-end-requires : goal.clause_end-end-requires
-clause_end-end-requires c = tt
+pub invariant_of-candidate : goal.invariant_of-candidate
+invariant_of-candidate c =
+    let turn = c.loop-clause.invariant in
+    let b = c.loop-clause.clause-iterator.start in
+    let g : Given c.args.kinds.now.list c.in-Some.clause b c.next.new.self.start = given c.args.kinds.now.list c.loop-clause.clause-iterator c.next.new.self c.in-Some.clause turn.1 c.in-Some.ensures.steps in
+    let kind : get_or c.args.kinds.now.kinds.now c.in-Some.clause.start Other ≢ Other = search rules in
+    rw (g.list_is, g.start_is)
+    (record { first = kind_candidate _ _ (λ h. kind (rw g.start_is (c.args.kinds.now.listed.at _ g.starts.inside g.starts ∙ h))); listed = c.requires.twos })
 
-pub mark_clause-found-requires : goal.mark_clause-found-requires
-mark_clause-found-requires c =
-    let inside : c.clause_end-end.result < length c.args.codes.now = omega (arith, c.clause_end-end.ensures, c.requires.normal.ended c.loop-b.b ((c.loop-b.invariant.2 (omega (arith, c.loop-b-test.true))))) in
-    record { indexed = c.requires.indexed; normal = c.requires.normal; kinds = c.requires.kinds; twos = c.requires.twos; spans = record { inside = omega (arith, c.loop-b-test.true); is = c.clause_end-end.ensures }; starts = (c.loop-b.invariant.2 (omega (arith, c.loop-b-test.true))); marks_len = c.loop-b.invariant.0 ∙ c.requires.marks_len; marking = c.loop-b.invariant.3 }
+pub mark-requires : goal.mark-requires
+mark-requires c =
+    let turn = c.loop-clause.invariant in
+    let b = c.loop-clause.clause-iterator.start in
+    let g : Given c.args.kinds.now.list c.in-Some.clause b c.next.new.self.start = given c.args.kinds.now.list c.loop-clause.clause-iterator c.next.new.self c.in-Some.clause turn.1 c.in-Some.ensures.steps in
+    rw (g.list_is, g.start_is) (record { marks_len = turn.0 ∙ c.requires.marks_len; marking = turn.3 })
 
-pub overflow_add-b : goal.overflow_add-b
-overflow_add-b c =
-    let inside : c.clause_end-end.result < length c.args.codes.now = omega (arith, c.clause_end-end.ensures, c.requires.normal.ended c.loop-b.b ((c.loop-b.invariant.2 (omega (arith, c.loop-b-test.true))))) in
-    omega (arith, inside)
+pub loop-clause-preserved-then-ne : goal.loop-clause-preserved-then-ne
+loop-clause-preserved-then-ne c =
+    let turn = c.loop-clause.invariant in
+    let b = c.loop-clause.clause-iterator.start in
+    let g : Given c.args.kinds.now.list c.in-Some.clause b c.next.new.self.start = given c.args.kinds.now.list c.loop-clause.clause-iterator c.next.new.self c.in-Some.clause turn.1 c.in-Some.ensures.steps in (
+      c.mark.auto.marks ∙ turn.0,
+      c.in-Some.ensures.steps.2 ∙ turn.1,
+      omega (arith, g.next, g.inside),
+      rw (g.next, ← g.ends, ← g.list_is) c.mark.ensures.marking_2,
+      c.mark.ensures.ites_value ∙ turn.4,
+    )
 
-pub loop-b-smaller : goal.loop-b-smaller
-loop-b-smaller c = omega (arith, c.clause_end-end.ensures, c.loop-b-test.true)
-
-pub loop-b-preserved : goal.loop-b-preserved
-loop-b-preserved c =
-    let inside : c.clause_end-end.result < length c.args.codes.now = omega (arith, c.clause_end-end.ensures, c.requires.normal.ended c.loop-b.b ((c.loop-b.invariant.2 (omega (arith, c.loop-b-test.true))))) in
-    (c.mark_clause-found.auto.marks ∙ c.loop-b.invariant.0, omega (arith, inside), λ h. rw c.clause_end-end.ensures (starts_next _ _ (omega (arith, c.clause_end-end.ensures, h))), c.mark_clause-found.ensures.marking_2, c.mark_clause-found.ensures.ites_value ∙ c.loop-b.invariant.4)
-
-pub shape_of-marks : goal.shape_of-marks
-shape_of-marks c = c.loop-b.invariant.0
-
-pub returns : goal.returns
-returns c =
-    let e : c.loop-b.b ≡ length c.args.codes.now = omega (arith, c.loop-b-test.false, c.loop-b.invariant.1) in record { marking_2 = rw e at c.loop-b.invariant.3; ites_value = c.loop-b.invariant.4 }
+pub loop-clause-preserved : goal.loop-clause-preserved
+loop-clause-preserved c =
+    let turn = c.loop-clause.invariant in
+    let b = c.loop-clause.clause-iterator.start in
+    let g : Given c.args.kinds.now.list c.in-Some.clause b c.next.new.self.start = given c.args.kinds.now.list c.loop-clause.clause-iterator c.next.new.self c.in-Some.clause turn.1 c.in-Some.ensures.steps in
+    let kind : get_or c.args.kinds.now.kinds.now c.in-Some.clause.start Other ≡ Other = search rules in (
+      turn.0,
+      c.in-Some.ensures.steps.2 ∙ turn.1,
+      omega (arith, g.next, g.inside),
+      rw g.next (marking_clause g.starts (kind_other _ _ (sym (c.args.kinds.now.listed.at _ g.starts.inside g.starts) ∙ rw g.start_is at kind)) turn.3 g.inside),
+      turn.4,
+    )

@@ -97,7 +97,7 @@ returns c =
     let inverted : c.inverse.result ≡ negate ((code_of c.args.x)) = c.inverse.ensures ∙ ap negate coded in
     let ignores : c.if-seen-inverse.ignored ≡ eqb (get_or c.args.seen.now (negate ((code_of c.args.x))) 0) c.args.stamp || c.args.t.ignored = let at = ap (λ (z : ℕ). get_or c.args.seen.now z 0) inverted in
     elim c.if-seen-inverse.branch [
-      | then-seen-inverse w ↦ rw (w.ignored-is, eq-eqb _ c.args.stamp (sym at ∙ w.if-seen-inverse.true))
+      | then-seen-inverse w ↦ rw (w.ignored-is, eq-eqb _ _ w.if-seen-inverse.true, eq-eqb _ c.args.stamp (sym at ∙ w.if-seen-inverse.true))
       | else-seen-inverse w ↦ rw (w.ignored-is, ne_eqb _ c.args.stamp (λ e. w.if-seen-inverse.false (at ∙ e)))
     ] in
     let puts : (c.if-seen-y.put ≡ cond (eqb (get_or c.args.seen.now ((code_of c.args.x)) 0) c.args.stamp) c.args.t.put (c.args.t.put + 1)) × (c.if-seen-y.codes ≡ cond (eqb (get_or c.args.seen.now ((code_of c.args.x)) 0) c.args.stamp) c.args.codes.now (set c.args.codes.now c.args.t.put ((code_of c.args.x)))) = let start = c in

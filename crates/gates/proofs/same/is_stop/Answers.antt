@@ -4,5 +4,5 @@ use Rattle.gates.proofs.same.is_stop.Goals as goal
 pub returns-then-y-eq0 : goal.returns-then-y-eq0
 returns-then-y-eq0 c = rw (eq-eqb _ _ c.if-y-eq0.true)
 
-pub returns : goal.returns
-returns c = rw (ne_eqb _ _ c.if-y-eq0.false)
+pub returns-else-y-eq0 : goal.returns-else-y-eq0
+returns-else-y-eq0 c = rw (ne_eqb _ _ c.if-y-eq0.false)

@@ -1,9 +1,19 @@
-use mathlib.Core.Path.{sym, ◌∙◌}
+use mathlib.Core.Path.{◌≡◌, refl, sym, ◌∙◌}
+use mathlib.Core.Bool.{Bool, true, false, not, beq}
+use native.Mathlib.Omega.{arith}
+use Rattle.clauses.specs.Sign.{plus, is_inverse}
 use Rattle.gates.proofs.Masks.{odd_end, odd_on}
 use Rattle.gates.proofs.xor.is_mask_odd.Goals as goal
 
-pub loop-i-preserved : goal.loop-i-preserved
-loop-i-preserved c = rw c.is_odd_with-odd.ensures (sym (odd_on c.args.clause.now c.loop-i.i c.loop-i.m c.loop-i.odd c.loop-i-test.true) ∙ c.loop-i.invariant)
+differ_plus : (a b : Bool) → not (beq a b) ≡ plus a b
+differ_plus true true = refl
+differ_plus true false = refl
+differ_plus false true = refl
+differ_plus false false = refl
+
+pub loop-preserved : goal.loop-preserved
+unfolding is_inverse
+loop-preserved c = rw differ_plus (sym (odd_on c.args.clause.now c.loop.index c.loop.m c.loop.odd c.loop-test.true) ∙ c.loop.invariant)
 
 pub returns : goal.returns
-returns c = sym (odd_end c.args.clause.now c.loop-i.i c.loop-i.m c.loop-i.odd c.loop-i-test.false) ∙ c.loop-i.invariant
+returns c = sym (odd_end c.args.clause.now c.loop.index c.loop.m c.loop.odd (omega arith)) ∙ c.loop.invariant

@@ -1,21 +1,16 @@
-use mathlib.Core.Path.{refl, sym, ◌∙◌}
+use mathlib.Core.Path.{◌∙◌}
 use mathlib.Core.Bool.{not, ◌||◌}
+use borrow.Author.Tests.{tests}
+use Rattle.std.proofs.Common.{rules}
+use Rattle.std.proofs.lemmas.Iterator.{YieldsList-from_slice}
+use Rattle.std.proofs.lemmas.Iterator.Search.{all_from_yields_List}
 use Rattle.clauses.specs.Sign.{is_inverse}
 use Rattle.gates.specs.Mark.{is_lowest, is_upright}
-use Rattle.gates.proofs.Every.{every_end, every_on, every_no}
+use Rattle.gates.proofs.Every.{every}
 use Rattle.gates.proofs.xor.is_upright.Goals as goal
 
-pub loop-i-init : goal.loop-i-init
-unfolding is_upright
-loop-i-init c = refl
-
-pub returns-then-not-is_upright_at : goal.returns-then-not-is_upright_at
-returns-then-not-is_upright_at c =
-    sym (c.loop-i.invariant ∙ every_no (λ x. not (is_inverse x) || is_lowest c.args.clause.now x) c.args.clause.now c.loop-i.i c.loop-i-test.true (sym c.is_upright_at.ensures ∙ c.if-not-is_upright_at.true))
-
-pub loop-i-preserved : goal.loop-i-preserved
-loop-i-preserved c =
-    c.loop-i.invariant ∙ every_on (λ x. not (is_inverse x) || is_lowest c.args.clause.now x) c.args.clause.now c.loop-i.i c.loop-i-test.true (sym c.is_upright_at.ensures ∙ c.if-not-is_upright_at.false)
-
 pub returns : goal.returns
-returns c = sym (c.loop-i.invariant ∙ every_end (λ x. not (is_inverse x) || is_lowest c.args.clause.now x) c.args.clause.now c.loop-i.i c.loop-i-test.false)
+unfolding is_upright
+returns c =
+    all_from_yields_List (λ x. not (is_inverse x) || is_lowest c.args.clause.now x) _ _ _ c.all.ensures.ran (YieldsList-from_slice c.args.clause.now cc) (λ x b q k. search (rules, tests))
+    ∙ every (λ x. not (is_inverse x) || is_lowest c.args.clause.now x) c.args.clause.now

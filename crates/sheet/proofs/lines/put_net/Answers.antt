@@ -4,20 +4,16 @@ use Rattle.sheet.specs.Sheet.{net_line}
 use native.Mathlib.Omega.{arith}
 use Rattle.sheet.proofs.lines.put_net.Goals as goal
 
--- src/lines.rt:50:9
 pub put_word-lead-requires : goal.put_word-lead-requires
 put_word-lead-requires c = omega (arith, c.requires, net_length c.args.w c.args.code)
 
--- src/lines.rt:51:9
 pub put_lead-end-requires : goal.put_lead-end-requires
 put_lead-end-requires c = omega (arith, c.requires, c.put_word-lead.ensures.end, c.put_word-lead.auto.text, net_length c.args.w c.args.code)
 
--- src/lines.rt:52:5
 pub put-requires : goal.put-requires
 put-requires c =
     omega (arith, c.requires, c.put_word-lead.ensures.end, c.put_word-lead.auto.text, c.put_lead-end.ensures.end, c.put_lead-end.auto.text, net_length c.args.w c.args.code)
 
--- src/lines.rt:46:1
 pub returns : goal.returns
 unfolding net_line
 returns c = wrote_then c.put_word-lead.ensures (wrote_then c.put_lead-end.ensures c.put.ensures)

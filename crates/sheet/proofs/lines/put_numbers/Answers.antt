@@ -35,10 +35,6 @@ put_word-requires c =
     let start = c in
     omega (arith, start.requires, numbers_length start.args.v (answer_of start.args.s []), c.put_word-groups.ensures.end, c.put_word-groups.auto.text, c.put_word-ites.ensures.end, c.put_word-ites.auto.text, c.put_word-xors.ensures.end, c.put_word-xors.auto.text, c.put_word-ands.ensures.end, c.put_word-ands.auto.text, c.put_word-nets.ensures.end, c.put_word-nets.auto.text)
 
-pub shape_of-text : goal.shape_of-text
-shape_of-text c =
-    omega (arith, c.put_word.auto.text, c.put_word-groups.auto.text, c.put_word-ites.auto.text, c.put_word-xors.auto.text, c.put_word-ands.auto.text, c.put_word-nets.auto.text)
-
 pub returns : goal.returns
 unfolding numbers_text
 returns c =

@@ -8,7 +8,6 @@ use native.Mathlib.Omega.{arith}
 use Rattle.clauses.proofs.Writes.{wrote_then}
 use Rattle.sheet.proofs.lines.put_sheet.Goals as goal
 
--- src/lines.rt:127:9
 pub put_bytes-values-requires : goal.put_bytes-values-requires
 unfolding names_line
 put_bytes-values-requires c =
@@ -16,7 +15,6 @@ put_bytes-values-requires c =
     ∙ ap (λ (l : List ℕ). length names_line + (length l + length (lead_lines c.args.s.verdict c.args.leads.now))) (sym (values_alone c.args.v c.args.s c.args.leads.now)) in
     omega (arith, c.requires.leads_in_bounds, parts)
 
--- src/lines.rt:128:9
 pub put_values-table-requires : goal.put_values-table-requires
 unfolding names_line
 put_values-table-requires c =
@@ -24,7 +22,6 @@ put_values-table-requires c =
     ∙ ap (λ (l : List ℕ). length names_line + (length l + length (lead_lines c.args.s.verdict c.args.leads.now))) (sym (values_alone c.args.v c.args.s c.args.leads.now)) in
     omega (arith, c.requires.leads_in_bounds, c.put_bytes-values.ensures.end, c.put_bytes-values.auto.text, parts)
 
--- src/lines.rt:129:5
 pub put_leads-requires : goal.put_leads-requires
 unfolding names_line
 put_leads-requires c =
@@ -32,7 +29,6 @@ put_leads-requires c =
     ∙ ap (λ (l : List ℕ). length names_line + (length l + length (lead_lines c.args.s.verdict c.args.leads.now))) (sym (values_alone c.args.v c.args.s c.args.leads.now)) in
     record { leads_in_bounds = omega (arith, c.requires.leads_in_bounds, c.put_bytes-values.ensures.end, c.put_bytes-values.auto.text, c.put_values-table.ensures.end, c.put_values-table.auto.text, parts); leads_len_bound = c.requires.leads_len_bound }
 
--- src/lines.rt:121:1
 pub returns : goal.returns
 unfolding names_line sheet_text
 returns c =
