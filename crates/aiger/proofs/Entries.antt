@@ -102,6 +102,54 @@ made_literals c e = made_kept c e ∙ rw (literals_each c)
     literals_each [] = literal_none
     literals_each (x ∷ c) = literal_cons x c ∙ ap (λ (l : List ℤ). literal_entries x ++ l) (literals_each c)
 
+-- The constant F at a clause's end
+
+-- two tests that hold in the same cases
+same_test : (a b : Bool) → (a ≡ true → b ≡ true) → (b ≡ true → a ≡ true) → a ≡ b
+same_test true b f g = sym (f refl)
+same_test false true f g = g refl
+same_test false false f g = refl
+
+false_left_out : (c : List ℕ) → is_left_out (c ++ (0 ∷ [])) ≡ is_left_out c
+false_left_out c = same_test (is_left_out (c ++ (0 ∷ []))) (is_left_out c) (λ h. has_left_out c (out (left_out_has (c ++ (0 ∷ [])) h))) (λ h. has_left_out (c ++ (0 ∷ [])) (into (left_out_has c h)))
+  where
+    in_front : {x : ℕ} → Mem x c → Mem x (c ++ (0 ∷ []))
+    in_front m = Memᴰ.append_left (0 ∷ []) m
+
+    into : LeftOut c → LeftOut (c ++ (0 ∷ []))
+    into (inl m) = inl (in_front m)
+    into (inr t) = inr (record { lit = t.lit; plain = in_front t.plain; inverse = in_front t.inverse })
+
+    behind : {x : ℕ} → Mem x (c ++ (0 ∷ [])) → Mem x c ⊎ (x ≡ 0)
+    behind m = ⊎_elim inl (λ k. inr (Memᴰ.eq_of_singleton k)) (Memᴰ.append_cases c m)
+
+    one : {x : ℕ} → x ≡ 1 → Mem x c → Mem 1 c
+    one e m = Memᴰ.cast (sym e) m
+
+    out : LeftOut (c ++ (0 ∷ [])) → LeftOut c
+    out (inl m) = inl (elim (behind m) [ inl k ↦ k | inr e ↦ absurd (omega arith) ])
+    out (inr t) = both t.lit (behind t.plain) (behind t.inverse)
+      where
+        both : (x : ℕ) → Mem x c ⊎ (x ≡ 0) → Mem (negate x) c ⊎ (negate x ≡ 0) → LeftOut c
+        both x (inl p) (inl q) = inr (record { lit = x; plain = p; inverse = q })
+        both x (inl p) (inr q) = inl (one (omega arith) p)
+        both x (inr p) (inl q) = inl (one (omega arith) q)
+        both x (inr p) (inr q) = absurd (omega arith)
+
+false_dropped : (c : List ℕ) → without_false (c ++ (0 ∷ [])) ≡ without_false c
+unfolding without_false keep
+false_dropped c = keep_append (λ x. not (eqb x 0)) c (0 ∷ []) ∙ append-nil (keep (λ x. not (eqb x 0)) c)
+
+-- a clause with the constant F at its end makes the same entries
+made_false : (c : List ℕ) → clause_entries (c ++ (0 ∷ [])) ≡ clause_entries c
+made_false c = made_clause (c ++ (0 ∷ [])) ∙ rw (false_left_out c, false_dropped c) (sym (made_clause c))
+
+pub made_two : (x y : ℕ) → clause_entries (x ∷ y ∷ 0 ∷ []) ≡ clause_entries (x ∷ y ∷ [])
+made_two x y = made_false (x ∷ y ∷ [])
+
+pub made_one : (x : ℕ) → clause_entries (x ∷ 0 ∷ 0 ∷ []) ≡ clause_entries (x ∷ [])
+made_one x = made_false (x ∷ 0 ∷ []) ∙ made_false (x ∷ [])
+
 -- The entries of AND lines and of a circuit
 
 -- what holds of the three clauses of an AND line holds of all

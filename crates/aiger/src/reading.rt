@@ -40,7 +40,9 @@ fn read_ands(
     read_numbers(&entries.row, header.nets, tally.zeros as u32, tally, row)
 }
 
-// Reads the lines behind the header. A line that is read has at least two bytes, so the tree has room for the nets of all.
+// Reads the lines behind the header. A line that is read has at least two bytes, so the tree has room for the nets of all. It is not inlined
+// into `read`, which would have its rows on the stack for a header that is turned away too.
+#[inline(never)]
 fn read_lines(text: &[u8], header: Header, row: &mut [i32]) -> Result<ListSize, Refusal>
     requires { (header.lines ≤ length text.now) × (length text.now ≤ max_text) }
     ensures { record { result = result; row = row.new } ≡ read_lines row.old (circuit_lines header text.now) }

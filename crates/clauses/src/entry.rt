@@ -1,9 +1,24 @@
-// The signed entries of a literal row: their codes, and how they are stored.
+// The signed entries of a literal row: their magnitudes, signs and codes, and how they are stored.
 
 ghost use Rattle.std.specs.Prelude.{◌≡◌, ◌<◌, ◌≤◌, nat_abs, set};
+ghost use Rattle.std.specs.Int.{is_negative};
 ghost use Rattle.clauses.specs.Code.{code_of};
 ghost use Rattle.clauses.specs.Limit.{max_nets};
 ghost use Rattle.clauses.specs.Number.{signed};
+
+// The magnitude of any entry, -2,147,483,648 too.
+pub fn magnitude(x: i32) -> u32
+    ensures { result ≡ nat_abs x }
+{
+    x.unsigned_abs()
+}
+
+// Whether an entry has a minus.
+pub fn is_negative(x: i32) -> bool
+    ensures { result ≡ is_negative x }
+{
+    x.is_negative()
+}
 
 // The entry of a sign and a magnitude of at most nine digits.
 fn entry_of(minus: bool, m: u32) -> i32
@@ -19,7 +34,7 @@ pub fn code(x: i32) -> u32
     requires { nat_abs x ≤ max_nets }
     ensures { result ≡ code_of x }
 {
-    2 * x.unsigned_abs() + x.is_negative() as u32
+    2 * magnitude(x) + is_negative(x) as u32
 }
 
 // Stores an entry, given by its sign and a magnitude of at most nine digits, if the row has room for it.

@@ -7,6 +7,7 @@ ghost use Rattle.clauses.specs.Writing.{Wrote};
 ghost use Rattle.clauses.specs.Printing.{header_text, entry_text, row_text, list_text, printing};
 
 use crate::checks::{check_entries, check_sizes};
+use crate::entry::{is_negative, magnitude};
 use crate::header::Sizes;
 use crate::limits::MAX_TEXT;
 use crate::refusal::Refusal;
@@ -19,7 +20,7 @@ use crate::writing::{decimal_length, put, put_bytes, put_decimal, put_word};
 fn number_length(x: i32) -> usize
     ensures { result ≡ length (signed_decimal x) }
 {
-    decimal_length(x.unsigned_abs() as u64) + x.is_negative() as usize
+    decimal_length(magnitude(x) as u64) + is_negative(x) as usize
 }
 
 // The length of an entry's text.
@@ -67,8 +68,8 @@ fn print_number(text: &mut [u8], at: usize, x: i32) -> usize
     requires { at + length (signed_decimal x) ≤ length text.old }
     ensures { Wrote text.old at (signed_decimal x) text.new result }
 {
-    let m = x.unsigned_abs();
-    if x.is_negative() {
+    let m = magnitude(x);
+    if is_negative(x) {
         let digits = put(text, at, b'-');
         return put_decimal(text, digits, m as u64);
     }

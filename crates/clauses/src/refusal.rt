@@ -72,6 +72,20 @@ impl Refusal {
     }
 }
 
+// The number of a refusal.
+pub fn number(r: Refusal) -> u32
+    ensures { result ≡ number_of r }
+{
+    Refusal::number(r)
+}
+
+// The place of a refusal.
+pub fn place(r: Refusal) -> usize
+    ensures { result ≡ place_of r }
+{
+    Refusal::place(r)
+}
+
 // Puts a refusal's text, as a program prints it, at the start of a buffer that holds any such text; how many bytes it has.
 #[tactic(auto, using(crate::proofs::RefusalTexts::number_length, crate::proofs::RefusalTexts::place_length))]
 pub fn put_refusal(r: Refusal, text: &mut [u8; MAX_REFUSAL]) -> usize

@@ -3,6 +3,7 @@
 ghost use Rattle.std.specs.Prelude.{◌≡◌, ◌<◌, ◌≤◌, nat_abs, length};
 ghost use Rattle.clauses.specs.Tally.{start, step, tally_of};
 
+use crate::entry::magnitude;
 use crate::walk::{Walk, next};
 
 // Of the entries so far: how many; the index of the first one over V, or their number; how many are 0; whether the last
@@ -52,7 +53,7 @@ pub fn tally_row(v: u32, row: &[i32]) -> EntryTally
     let mut tally = EntryTally::start();
     let mut walk = Walk { row, at: 0 };
     while walk.at < row.len() {
-        tally = tally.add(v, next(&mut walk).unsigned_abs());
+        tally = tally.add(v, magnitude(next(&mut walk)));
     }
     tally
 }

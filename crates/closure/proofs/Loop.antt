@@ -8,7 +8,7 @@ use Rattle.std.specs.declared.ops.ControlFlow.{ControlFlow}
 use Rattle.std.specs.declared.ops.ControlFlow.TheVariants.{Continue, Break}
 use Prim.Native.Nat.{ℕ, ◌+◌, ◌-◌, ◌≤◌, ◌<◌}
 use native.Mathlib.Omega.{arith}
-use lib.ListN.{length, replicate}
+use lib.ListN.{length, replicate, length-replicate}
 use Rattle.clauses.specs.Limit.{max_nets, max_entries}
 use Rattle.clauses.specs.Clause.{clauses_in}
 use Rattle.clauses.specs.Listing.{Fits}
@@ -117,6 +117,17 @@ module _ {row marks : List ℕ} {limit v : ℕ} {leads next older : List ℕ} {p
             first = λ z. absurd (omega arith);
             before = λ n. subst₂ (λ (k j : List ℕ). RowJoined row marks k j (fresh 0)) (sym o) (sym e) (row_later row marks leads new t new (fresh 0) (later c) joined);
           }
+
+      -- .. and the rows keep their sizes
+      leads_size : {older' : List ℕ} {q : ControlFlow Ended Progress} → Followed limit p t leads new leads' older' q → length leads' ≡ v
+      leads_size (Followed.settled h e) = ap length e ∙ b.reached.row.size
+      leads_size (Followed.stopped h l e) = ap length e ∙ b.reached.row.size
+      leads_size (Followed.clashed h l c e) = ap length e ∙ length-replicate {A = ℕ} (length leads) no_lead ∙ b.reached.row.size
+      leads_size (Followed.made h l c e o) = ap length e ∙ new_size
+
+      pub round_sizes : {older' : List ℕ} {q : ControlFlow Ended Progress} → length older' ≡ length older → Followed limit p t leads new leads' older' q
+          → (length leads' ≡ v) × (length new ≡ v) × (length older' ≡ v)
+      round_sizes kept f = (leads_size f, new_size, kept ∙ b.size ∙ b.reached.row.size)
 
 -- the rounds that may still be made become fewer
 pub fewer_left : {limit : ℕ} {s p : Progress} {t : Tally} {leads next leads' older' : List ℕ} → Followed limit s t leads next leads' older' (Continue p) → limit + 1 - p.rounds < limit + 1 - s.rounds

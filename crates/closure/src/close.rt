@@ -120,7 +120,9 @@ fn close_in(
     })
 }
 
-// The same, with rows of its own.
+// The same, with rows of its own. It is not inlined into `close`, which would have these rows and those of the rounds on the stack for a list that
+// is turned away too.
+#[inline(never)]
 fn close_rounds(
     v: u32,
     row: &[i32],

@@ -23,7 +23,7 @@ pub struct Occurrences<'a> {
     // for a place: the one before it of its net, counted from 1
     pub links: &'a [u32],
     ghost ended: { Ended codes.now },
-    ghost entries: { length codes.now ≤ max_entries },
+    ghost entries: { length codes.now ≤ 4294967295 },
     ghost clauses: { (b q : ℕ) → LiteralAt codes.now b q → get_or starts.now q 0 ≡ b },
     ghost rooms: { (length codes.now ≤ length starts.now) × (length codes.now ≤ length reads.now) × (length codes.now ≤ length links.now) },
     ghost chains: { Chained (net_at codes.now) (length codes.now) occurs.now links.now },

@@ -84,7 +84,7 @@ impl<const ENTRIES: usize, const BUCKETS: usize> KeptSides<ENTRIES, BUCKETS> {
     }
 
     // The last entry with this select, output and key in a chain from entry `from` on, counted from 1.
-    fn last_along(&self, codes: &[u32], from: usize, c: u32, l: u32, like: u64) -> Option<usize>
+    pub fn last_along(&self, codes: &[u32], from: usize, c: u32, l: u32, like: u64) -> Option<usize>
         requires { (bound : ℕ) × MatesFrom codes.now self.now c l like bound from }
         ensures { (bound : ℕ) → MatesFrom codes.now self.now c l like bound from → LastEntry codes.now self.now.table c l like bound result }
     {

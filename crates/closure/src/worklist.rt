@@ -1,7 +1,6 @@
 // The worklist of a round: the clauses of a row that it goes over, by where they start. In the first round these are all clauses, in a later one those of which a lead has become a constant, or a lead has changed that a rule about their gates reads.
 
 ghost use Rattle.std.specs.Prelude.{◌≡◌, ◌≢◌, ◌⊎◌, false, List, ℕ, ◌≤◌, ◌<◌, length, get_or, take};
-ghost use Rattle.clauses.specs.Limit.{max_entries};
 ghost use Rattle.clauses.specs.Row.{Starts};
 ghost use Rattle.closure.specs.Passing.{FirstOf};
 ghost use Rattle.closure.specs.Marked.{Ended};
@@ -65,7 +64,7 @@ pub struct Worklist<'a> {
 impl Worklist<'_> {
     // Lists the clause that starts at b, unless it is seen.
     fn list_clause(&mut self, codes: &[u32], b: usize)
-        requires ended { Ended codes.now × Starts codes.now b × (length codes.now ≤ max_entries) }
+        requires ended { Ended codes.now × Starts codes.now b × (length codes.now ≤ 4294967295) }
         requires listing { Listing codes.now self.old }
         ensures listed { Listed codes.now self.old self.new }
         ensures seen { HasMark self.new.seen.now b }

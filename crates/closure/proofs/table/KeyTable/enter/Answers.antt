@@ -24,4 +24,6 @@ returns g c =
         key = λ i l. get_or-set_other s.keys s.count i c.args.key 0 (omega arith);
         value = λ i l. get_or-set_other s.values s.count i c.args.value 0 (omega arith);
       };
+      keys_are = refl;
+      values_are = refl;
     }
